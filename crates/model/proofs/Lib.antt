@@ -1,0 +1,9 @@
+pub mod Cutting
+pub mod Holding
+pub mod Numerals
+pub mod Revise
+pub mod Sets
+pub mod Sizes
+pub mod Stand
+pub mod Striking
+pub mod Tuples

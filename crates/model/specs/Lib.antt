@@ -1,0 +1,11 @@
+pub mod Boxes
+pub mod Domains
+pub mod Facts
+pub mod Laws
+pub mod Numbers
+pub mod Picks
+pub mod Rows
+pub mod States
+pub mod Strikes
+pub mod View
+pub mod Waiting
