@@ -1,0 +1,5 @@
+use Rattle.schedulers.proofs.Rounds.{ring-order}
+use Rattle.schedulers.proofs.laws.ring_order_stands.Needs as need
+
+pub returns : need.returns
+returns c = ring-order
