@@ -1,6 +1,7 @@
 ghost use mathlib.Core.Path.{_≡_};
 ghost use mathlib.Core.Bool.{true, false};
 ghost use Prim.Native.Nat.{ℕ, _<_};
+ghost use lib.ListN.{length, getD, set, replicate};
 ghost use Rattle.std.specs.Options.{Cases};
 ghost use Rattle.model.specs.Boxes.{Dead, Alive, open-box, with-set};
 ghost use Rattle.model.specs.Domains.{cut-set};
@@ -15,28 +16,46 @@ pub struct FlagBox {
     sets: [Domain; 256],
 }
 
+// The layout: a list of 256 sets, that of flag 0 first. These three, and the proofs of what calls them, are all that knows it.
+fn open_sets() -> [Domain; 256]
+    ensures { λ r. ⌜ r ≡ replicate 256 Domain.Open ⌝ }
+{
+    [Domain::Open; 256]
+}
+
+fn read(sets: &[Domain; 256], flag: u8) -> Domain
+    ensures { λ r. ⌜ r ≡ getD (now (sets .entry)) flag Domain.Empty ⌝ ∗ ⌜ length (now (sets .entry)) ≡ 256 ⌝ }
+{
+    sets[flag as usize]
+}
+
+fn write(sets: &mut [Domain; 256], flag: u8, value: Domain)
+    ensures { λ _. ⌜ now (sets .exit) ≡ set (now (sets .entry)) flag value ⌝ ∗ ⌜ length (now (sets .entry)) ≡ 256 ⌝ }
+{
+    let place = flag as usize;
+    sets[place] = value;
+}
+
 impl FlagBox {
     // The box in which every flag is open.
     pub fn all_open() -> FlagBox
         ensures { λ r. ⌜ at r ≡ open-box ⌝ }
     {
-        FlagBox {
-            sets: [Domain::Open; 256],
-        }
+        FlagBox { sets: open_sets() }
     }
 
     // The set of a flag.
     pub fn get(&self, flag: u8) -> Domain
         ensures { λ r. ⌜ r ≡ at (now (self .entry)) flag ⌝ }
     {
-        self.sets[flag as usize]
+        read(&self.sets, flag)
     }
 
     // Gives a flag another set.
     pub fn put(&mut self, flag: u8, set: Domain)
         ensures { λ _. ⌜ at (now (self .exit)) ≡ with-set (at (now (self .entry))) flag set ⌝ }
     {
-        self.sets[flag as usize] = set;
+        write(&mut self.sets, flag, set);
     }
 
     // Leaves a flag no value but this one, and answers the set that it then has.

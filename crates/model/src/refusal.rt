@@ -2,6 +2,8 @@
 ghost use mathlib.Core.Path.{_≡_};
 ghost use Prim.Native.Nat.{ℕ};
 ghost use Rattle.model.specs.Numbers.{add-number, make-number};
+use std::error::Error;
+use std::fmt;
 
 // A refusal has a number, by which agents and documents name it. Every kind of refusal gets its numbers so: by a definition that goes
 // through its cases.
@@ -33,6 +35,21 @@ pub impl Refusal for AddRefusal as AddRefusalNumber {
     }
 }
 
+pub impl fmt::Display for AddRefusal as AddRefusalDisplay {
+    fn fmt<W: fmt::Write>(&self, f: &mut fmt::Formatter<W>) -> fmt::Result {
+        let number = self.number();
+        let reason = match self {
+            AddRefusal::Flag => "a flag above 255",
+            AddRefusal::Twice => "a flag twice in one row",
+            AddRefusal::Full => "the book is full",
+            AddRefusal::NoLiteral => "a clause without a literal",
+        };
+        write!(f, "refused {number}: {reason}")
+    }
+}
+
+pub impl Error for AddRefusal as AddRefusalError {}
+
 // Why something was not made. Only constructors allocate, so only they can be refused for want of memory.
 #[derive(Clone, Copy, PartialEq, Eq, Debug)]
 pub enum MakeRefusal {
@@ -47,3 +64,12 @@ pub impl Refusal for MakeRefusal as MakeRefusalNumber {
         self as u8
     }
 }
+
+pub impl fmt::Display for MakeRefusal as MakeRefusalDisplay {
+    fn fmt<W: fmt::Write>(&self, f: &mut fmt::Formatter<W>) -> fmt::Result {
+        let number = self.number();
+        write!(f, "refused {number}: no memory")
+    }
+}
+
+pub impl Error for MakeRefusal as MakeRefusalError {}

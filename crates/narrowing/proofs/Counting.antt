@@ -26,6 +26,7 @@ waiting-< w w′ b row h took =
     less true false = omega arith
     less false true = omega arith
     less false false = omega arith
+
     gone : (x y : Bool) → x ≡ true → y ≡ true → one-if (not x && y) < one-if y
     gone true true _ _ = omega arith
     gone true false _ e = absurd (false≢true e)

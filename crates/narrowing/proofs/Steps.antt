@@ -32,10 +32,13 @@ shared r q = go (r .flags)
   where
     some : (fs : List ℕ) → Type 0
     some fs = (f : ℕ) × (elem f fs ≡ true) × On q f
+
     more : (x : ℕ) (xs : List ℕ) → some xs → some (x ∷ xs)
     more x xs s = (s .0, or-right (eqb (s .0) x) (elem (s .0) xs) (s .1), s .2)
+
     none : (x : ℕ) (xs : List ℕ) → (On q x → ⊥) → (some xs → ⊥) → some (x ∷ xs) → ⊥
     none x xs n m s = ⊎-elim (λ e. n (subst (λ y. On q y) (eqb-true (s .0) x e) (s .2))) (λ e. m (s .0, e, s .2)) (or-cases (eqb (s .0) x) (elem (s .0) xs) (s .1))
+
     go : (fs : List ℕ) → some fs ⊎ (some fs → ⊥)
     go [] = inr (λ s. false≢true (s .1))
     go (x ∷ xs) = ⊎-elim
@@ -49,9 +52,9 @@ module _ (rows : List Row) (w w′ : ℕ → Bool) (row : ℕ) (low : row < 1024
   struck answer s p k l = ⊎-elim
       (λ e. inr (inl (subst (λ r. RowConsistent r after) (row-work rows row low ∙ ap (λ j. nth-row (workable rows) j) (sym e)) (strike-settles (row-at rows row) before after (s .left)))))
       (λ n. ⊎-elim
-          (λ h. inl (took k ∙ ap (λ b. not b && w k) (ne-eqb k row n) ∙ h))
-          (λ c. inr (inr c))
-          (p k l))
+      (λ h. inl (took k ∙ ap (λ b. not b && w k) (ne-eqb k row n) ∙ h))
+      (λ c. inr (inr c))
+      (p k l))
       (cases-eq k row)
 
   pub pending-unchanged : Strikes (row-at rows row) before after Unchanged → Pending (workable rows) w before → Pending (workable rows) w′ after
@@ -64,12 +67,12 @@ module _ (rows : List Row) (w w′ : ℕ → Bool) (row : ℕ) (low : row < 1024
   pending-changed w″ s woken p k l = ⊎-elim
       (λ h. inl (woken k .1 (inr h)))
       (λ c. ⊎-elim
-          inr
-          (λ x. ⊎-elim
-              (λ t. inl (woken k .1 (inl t)))
-              (λ n. inr (strike-leaves (row-at rows row) before after (s .left) (nth-row (workable rows) k) (λ f o q. n (f, o, q)) x))
-              (shared (row-at rows row) (nth-row (workable rows) k)))
-          c)
+      inr
+      (λ x. ⊎-elim
+      (λ t. inl (woken k .1 (inl t)))
+      (λ n. inr (strike-leaves (row-at rows row) before after (s .left) (nth-row (workable rows) k) (λ f o q. n (f, o, q)) x))
+      (shared (row-at rows row) (nth-row (workable rows) k)))
+      c)
       (struck Changed s p k l)
 
 pub size-changed : (rows : List Row) → AllProper rows → (row : ℕ) (before after : Box) → Strikes (row-at rows row) before after Changed → size after < size before
@@ -88,11 +91,11 @@ progress-none rows top = record { down = λ f v h. h; up = λ c k p. p; alive = 
 
 pub progress-same : (rows : List Row) (top a b : Box) → ((f : ℕ) → b f ≡ a f) → Progress rows top a → Progress rows top b
 progress-same rows top a b e p =
-    record
-      { down = λ f v h. p .down f v (subst (λ d. Has d v) (e f) h)
-      ; up = λ c k q f v h. subst (λ d. Has d v) (sym (e f)) (p .up c k q f v h)
-      ; alive = λ t f h. p .alive t f (sym (e f) ∙ h)
-      }
+    record {
+      down = λ f v h. p .down f v (subst (λ d. Has d v) (e f) h);
+      up = λ c k q f v h. subst (λ d. Has d v) (sym (e f)) (p .up c k q f v h);
+      alive = λ t f h. p .alive t f (sym (e f) ∙ h);
+    }
 
 -- every row that can wait, also one that is not there, supports the values of a consistent box
 any-row : (rows : List Row) (row : ℕ) → row < 1024 → (c : Box) → Consistent (workable rows) c → RowConsistent (row-at rows row) c
@@ -103,11 +106,11 @@ any-row rows row low c k =
 module _ (rows : List Row) (row : ℕ) (low : row < 1024) (top before after : Box) where
   pub progress-more : (answer : Strike) → Strikes (row-at rows row) before after answer → (Emptied (row-at rows row) after → ⊥) → Progress (workable rows) top before → Progress (workable rows) top after
   progress-more answer s n p =
-      record
-        { down = λ f v h. p .down f v (strike-shrinks (row-at rows row) before after (s .left) f v h)
-        ; up = λ c k q. strike-keeps (row-at rows row) before after (s .left) c (any-row rows row low c k) (p .up c k q)
-        ; alive = λ t. strike-alive (row-at rows row) before after (s .left) n (p .alive t)
-        }
+      record {
+        down = λ f v h. p .down f v (strike-shrinks (row-at rows row) before after (s .left) f v h);
+        up = λ c k q. strike-keeps (row-at rows row) before after (s .left) c (any-row rows row low c k) (p .up c k q);
+        alive = λ t. strike-alive (row-at rows row) before after (s .left) n (p .alive t);
+      }
 
   pub dead-down : Strikes (row-at rows row) before after Died → Progress (workable rows) top before → after ⊆ top
   dead-down s p f v h = p .down f v (strike-shrinks (row-at rows row) before after (s .left) f v h)
@@ -124,11 +127,11 @@ module _ (rows : List Row) (row : ℕ) (low : row < 1024) (top before after : Bo
 -- where none waits, the box is the largest
 pub narrowed-alive : (rows : List Row) (top b : Box) (w : ℕ → Bool) → NoneWaits w → Pending rows w b → boxes.Alive top → Progress rows top b → Narrowed rows top b Alive
 narrowed-alive rows top b w none q a p =
-    record
-      { largest = b
-      ; is-largest = record { consistent = λ k l. ⊎-elim (λ h. absurd (both-ways (w k) (none k) h)) (λ x. x) (q k l); within = p .down; greatest = p .up }
-      ; outcome = (p .alive a, refl)
-      }
+    record {
+      largest = b;
+      is-largest = record { consistent = λ k l. ⊎-elim (λ h. absurd (both-ways (w k) (none k) h)) (λ x. x) (q k l); within = p .down; greatest = p .up };
+      outcome = (p .alive a, refl);
+    }
 
 -- a box that is dead has a dead largest box
 pub dead-already : (rows : List Row) → AllProper rows → (b : Box) → boxes.Dead b → Narrowed rows b b Dead

@@ -8,16 +8,16 @@ use native.Mathlib.Omega.{arith}
 use lib.Dec.{eqb, ltb}
 use lib.ListN.{length}
 use Rattle.std.proofs.shelf.Lists.{getD-past}
-use Rattle.std.proofs.shelf.Tests.{cases-bool, cases-eq, cases-lt, both-ways, or-cases, or-left, or-right, eq-eqb, ne-eqb, lt-ltb, le-ltb}
+use Rattle.std.proofs.shelf.Tests.{cases-eq, cases-lt, or-cases, or-left, or-right, and-parts, and-from, eq-eqb, ne-eqb, lt-ltb, le-ltb}
 use Rattle.model.specs.Rows.{Row, on, On, no-row, nth-row}
 
 pub ltb-more : (k n : ℕ) → ltb k (n + 1) ≡ (eqb k n || ltb k n)
 ltb-more k n = ⊎-elim
     (λ e. lt-ltb k (n + 1) (omega arith) ∙ sym (or-left (eqb k n) (ltb k n) (eq-eqb k n e)))
     (λ d. ⊎-elim
-        (λ l. lt-ltb k (n + 1) (omega arith) ∙ sym (or-right (eqb k n) (ltb k n) (lt-ltb k n l)))
-        (λ l. le-ltb k (n + 1) (omega arith) ∙ sym (ap₂ (λ x y. x || y) (ne-eqb k n d) (le-ltb k n l)))
-        (cases-lt k n))
+    (λ l. lt-ltb k (n + 1) (omega arith) ∙ sym (or-right (eqb k n) (ltb k n) (lt-ltb k n l)))
+    (λ l. le-ltb k (n + 1) (omega arith) ∙ sym (ap₂ (λ x y. x || y) (ne-eqb k n d) (le-ltb k n l)))
+    (cases-lt k n))
     (cases-eq k n)
 
 or-assoc : (x y z : Bool) → (x || (y || z)) ≡ ((x || y) || z)
@@ -28,6 +28,14 @@ or-assoc false y z = refl
 pub all-more : (k n : ℕ) (w : Bool) → (eqb k n || (ltb k n || w)) ≡ (ltb k (n + 1) || w)
 all-more k n w = or-assoc (eqb k n) (ltb k n) w ∙ ap (λ x. x || w) (sym (ltb-more k n))
 
+and-true : (x : Bool) → (x && true) ≡ x
+and-true true = refl
+and-true false = refl
+
+and-false : (x : Bool) → (x && false) ≡ false
+and-false true = refl
+and-false false = refl
+
 module _ (o : ℕ → Bool) (k n : ℕ) (w : Bool) where
   other : (k ≡ n → ⊥) → ((ltb k n && o k) || w) ≡ ((ltb k (n + 1) && o k) || w)
   other d = ap (λ x. (x && o k) || w) (sym (ltb-more k n ∙ ap (λ x. x || ltb k n) (ne-eqb k n d)))
@@ -35,17 +43,13 @@ module _ (o : ℕ → Bool) (k n : ℕ) (w : Bool) where
   here : k ≡ n → (t : Bool) → o n ≡ t → ((ltb k (n + 1) && o k) || w) ≡ (t || w)
   here e t h = ap₂ (λ x y. (x && y) || w) (lt-ltb k (n + 1) (omega arith)) (ap o e ∙ h)
 
-  -- a number that has the property is added, one that has not is passed over
-  pub add-marked : o n ≡ true → (eqb k n || ((ltb k n && o k) || w)) ≡ ((ltb k (n + 1) && o k) || w)
-  add-marked h = ⊎-elim
-      (λ e. or-left (eqb k n) _ (eq-eqb k n e) ∙ sym (here e true h))
-      (λ d. ap (λ x. x || ((ltb k n && o k) || w)) (ne-eqb k n d) ∙ other d)
-      (cases-eq k n)
-
-  pub pass-unmarked : o n ≡ false → ((ltb k n && o k) || w) ≡ ((ltb k (n + 1) && o k) || w)
-  pass-unmarked h = ⊎-elim
-      (λ e. ap (λ x. (x && o k) || w) (le-ltb k n (omega arith)) ∙ sym (here e false h))
-      other
+  -- the number n, where it has the property, is one more
+  pub mark-more : ((o n && eqb k n) || ((ltb k n && o k) || w)) ≡ ((ltb k (n + 1) && o k) || w)
+  mark-more = ⊎-elim
+      (λ e.
+      let past : ((ltb k n && o k) || w) ≡ w = ap (λ x. (x && o k) || w) (le-ltb k n (omega arith)) in
+      ap₂ (λ x y. (o n && x) || y) (eq-eqb k n e) past ∙ (ap (λ x. x || w) (and-true (o n)) ∙ sym (here e (o n) refl)))
+      (λ d. ap (λ x. (o n && x) || ((ltb k n && o k) || w)) (ne-eqb k n d) ∙ (ap (λ x. x || ((ltb k n && o k) || w)) (and-false (o n)) ∙ other d))
       (cases-eq k n)
 
 -- once all rows were seen
@@ -53,41 +57,27 @@ pub all-marked : (rows : List Row) (f k n : ℕ) (w : Bool) → length rows ≤ 
 all-marked rows f k n w l = ⊎-elim
     (λ b. ap (λ x. (x && on (nth-row rows k) f) || w) (lt-ltb k n b))
     (λ b.
-        let e : on (nth-row rows k) f ≡ false = ap (λ r. on r f) (getD-past rows k no-row (omega arith)) in
-        ap (λ x. (x && on (nth-row rows k) f) || w) (le-ltb k n b) ∙ sym (ap (λ x. x || w) e))
+    let e : on (nth-row rows k) f ≡ false = ap (λ r. on r f) (getD-past rows k no-row (omega arith)) in
+    ap (λ x. (x && on (nth-row rows k) f) || w) (le-ltb k n b) ∙ sym (ap (λ x. x || w) e))
     (cases-lt k n)
 
 -- the flags below n that two rows share
 abbrev pub Below : Row → Row → ℕ → Type 0
 Below r q n = (f : ℕ) × (f < n) × On r f × On q f
 
-module _ (r q : Row) (n : ℕ) (before now after : Bool) (so-far : (now ≡ true) ↔ (Below r q n ⊎ (before ≡ true))) where
-  -- one flag more that the first row has: the second is woken where it has it too
-  pub near-more : On r n → after ≡ (on q n || now) → (after ≡ true) ↔ (Below r q (n + 1) ⊎ (before ≡ true))
-  near-more o e =
-      ( (λ h. ⊎-elim (λ p. inl (n, omega arith, o, p)) (λ p. further (so-far .0 p)) (or-cases (on q n) now (sym e ∙ h)))
-      , (λ h. e ∙ ⊎-elim
-          (λ s. ⊎-elim
-              (λ q′. or-left (on q n) now (subst (λ f. On q f) q′ (s .3)))
-              (λ d. or-right (on q n) now (so-far .1 (inl (s .0, omega (arith, s .1), s .2, s .3))))
-              (cases-eq (s .0) n))
-          (λ b. or-right (on q n) now (so-far .1 (inr b)))
-          h)
-      )
-    where
-      further : Below r q n ⊎ (before ≡ true) → Below r q (n + 1) ⊎ (before ≡ true)
-      further (inl s) = inl (s .0, omega (arith, s .1), s .2, s .3)
-      further (inr b) = inr b
-
-  -- one that it has not
-  pub near-same : on r n ≡ false → (now ≡ true) ↔ (Below r q (n + 1) ⊎ (before ≡ true))
-  near-same o =
-      ( (λ h. ⊎-elim (λ s. inl (s .0, omega (arith, s .1), s .2, s .3)) inr (so-far .0 h))
-      , (λ h. ⊎-elim
-          (λ s. ⊎-elim
-              (λ e. absurd (both-ways (on r n) o (subst (λ f. On r f) e (s .2))))
-              (λ d. so-far .1 (inl (s .0, omega (arith, s .1), s .2, s .3)))
-              (cases-eq (s .0) n))
-          (λ b. so-far .1 (inr b))
-          h)
-      )
+-- one flag more: where the first row has it, the second is woken if it has it too
+pub near-more : (r q : Row) (n : ℕ) (before now after : Bool) → (now ≡ true) ↔ (Below r q n ⊎ (before ≡ true)) → after ≡ ((on r n && on q n) || now) → (after ≡ true) ↔ (Below r q (n + 1) ⊎ (before ≡ true))
+near-more r q n before now after so-far e = (
+  (λ h. ⊎-elim (λ p. let b = and-parts (on r n) (on q n) p in inl (n, omega arith, b .0, b .1)) (λ p. further (so-far .0 p)) (or-cases (on r n && on q n) now (sym e ∙ h))),
+  (λ h. e ∙ ⊎-elim
+      (λ s. ⊎-elim
+      (λ x. or-left (on r n && on q n) now (and-from (on r n) (on q n) (subst (λ f. On r f) x (s .2)) (subst (λ f. On q f) x (s .3))))
+      (λ d. or-right (on r n && on q n) now (so-far .1 (inl (s .0, omega (arith, s .1), s .2, s .3))))
+      (cases-eq (s .0) n))
+      (λ b. or-right (on r n && on q n) now (so-far .1 (inr b)))
+      h),
+)
+  where
+    further : Below r q n ⊎ (before ≡ true) → Below r q (n + 1) ⊎ (before ≡ true)
+    further (inl s) = inl (s .0, omega (arith, s .1), s .2, s .3)
+    further (inr b) = inr b

@@ -2,7 +2,7 @@
 ghost use mathlib.Core.Path.{_≡_};
 ghost use lib.ListN.{length};
 ghost use Rattle.narrowing.specs.Narrowing.{workable};
-ghost use Rattle.narrowing.specs.Waking.{WokenAll, WokenAt, WokenNear};
+ghost use Rattle.narrowing.specs.Waking.{WokenAll, WokenOne, WokenAt, WokenFor, WokenNear};
 use model::book::Book;
 use model::scheduler::Scheduler;
 
@@ -14,10 +14,19 @@ fn workable_count<B: Book>(book: &B) -> u16
 }
 
 // Wakes every row.
-pub fn wake_all<B: Book, S: Scheduler>(book: &B, scheduler: &mut S)
+pub(crate) fn wake_all<B: Book, S: Scheduler>(book: &B, scheduler: &mut S)
     ensures { λ _. ⌜ WokenAll (B·Book .rows (now (book .entry))) (S·Scheduler .waits (now (scheduler .entry))) (S·Scheduler .waits (now (scheduler .exit))) ⌝ }
 {
     for row in 0..workable_count(book) {
+        scheduler.wake(row);
+    }
+}
+
+// Wakes the row if it has the flag.
+fn wake_if_touching<B: Book, S: Scheduler>(book: &B, scheduler: &mut S, row: u16, flag: usize)
+    ensures { λ _. ⌜ WokenOne (B·Book .rows (now (book .entry))) row flag (S·Scheduler .waits (now (scheduler .entry))) (S·Scheduler .waits (now (scheduler .exit))) ⌝ }
+{
+    if book.touches(row, flag) {
         scheduler.wake(row);
     }
 }
@@ -27,19 +36,24 @@ fn wake_touching<B: Book, S: Scheduler>(book: &B, scheduler: &mut S, flag: usize
     ensures { λ _. ⌜ WokenAt (B·Book .rows (now (book .entry))) flag (S·Scheduler .waits (now (scheduler .entry))) (S·Scheduler .waits (now (scheduler .exit))) ⌝ }
 {
     for row in 0..workable_count(book) {
-        if book.touches(row, flag) {
-            scheduler.wake(row);
-        }
+        wake_if_touching(book, scheduler, row, flag);
+    }
+}
+
+// Wakes the rows that have the flag if the given row has it.
+fn wake_sharing<B: Book, S: Scheduler>(book: &B, scheduler: &mut S, row: u16, flag: usize)
+    ensures { λ _. ⌜ WokenFor (B·Book .rows (now (book .entry))) row flag (S·Scheduler .waits (now (scheduler .entry))) (S·Scheduler .waits (now (scheduler .exit))) ⌝ }
+{
+    if book.touches(row, flag) {
+        wake_touching(book, scheduler, flag);
     }
 }
 
 // Wakes the rows that share a flag with the given one.
-pub fn wake_neighbours<B: Book, S: Scheduler>(book: &B, scheduler: &mut S, row: u16)
+pub(crate) fn wake_neighbours<B: Book, S: Scheduler>(book: &B, scheduler: &mut S, row: u16)
     ensures { λ _. ⌜ WokenNear (B·Book .rows (now (book .entry))) row (S·Scheduler .waits (now (scheduler .entry))) (S·Scheduler .waits (now (scheduler .exit))) ⌝ }
 {
     for flag in 0..256 {
-        if book.touches(row, flag) {
-            wake_touching(book, scheduler, flag);
-        }
+        wake_sharing(book, scheduler, row, flag);
     }
 }

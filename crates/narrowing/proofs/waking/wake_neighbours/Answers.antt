@@ -1,14 +1,10 @@
-use mathlib.Core.Path.{_≡_, refl, sym, ap, subst, _∙_}
-use mathlib.Core.Bool.{true}
-use mathlib.Core.Logic.{_↔_, _⊎_, inl, inr, ⊎-elim}
-use Prim.Native.Nat.{_+_}
+use mathlib.Core.Logic.{inl, inr, ⊎-elim}
 use native.Mathlib.Omega.{arith}
 use Rattle.model.specs.Rows.{nth-row, row-at}
 use Rattle.narrowing.specs.Narrowing.{workable}
-use Rattle.narrowing.proofs.Wakes.{Below, near-more, near-same}
+use Rattle.narrowing.proofs.Wakes.{near-more}
 use Rattle.narrowing.proofs.Workable.{flag-below}
 use Rattle.narrowing.proofs.waking.wake_neighbours.Needs as need
-use Rattle.narrowing.proofs.waking.wake_neighbours.Needs.{then-touches, else-touches}
 
 pub loop-flag-holds : need.loop-flag-holds
 loop-flag-holds g c k = (inr, λ h. ⊎-elim (λ s. absurd (omega (arith, s .1))) (λ b. b) h)
@@ -16,25 +12,15 @@ loop-flag-holds g c k = (inr, λ h. ⊎-elim (λ s. absurd (omega (arith, s .1))
 pub loop-flag-again : need.loop-flag-again
 loop-flag-again g c k =
     let rows = g .B·Book .rows (c .args .book .now) in
-    elim (c .if-touches .came)
-    [ then-touches w ↦
-        near-more (row-at rows (c .args .row)) (nth-row (workable rows) k) (c .loop-flag .flag) _ _ _ (c .loop-flag .inv k)
-        (sym (c .touches .ensures) ∙ w .if-touches .taken)
-        (ap (λ s. g .S·Scheduler .waits s k) (w .scheduler-is) ∙ w .wake-touching .ensures k)
-    | else-touches w ↦
-        subst (λ s. (g .S·Scheduler .waits s k ≡ true) ↔ (Below (row-at rows (c .args .row)) (nth-row (workable rows) k) (c .loop-flag .flag + 1) ⊎ (g .S·Scheduler .waits (c .args .scheduler .now) k ≡ true)))
-        (sym (w .scheduler-is))
-        (near-same (row-at rows (c .args .row)) (nth-row (workable rows) k) (c .loop-flag .flag) _ (g .S·Scheduler .waits (c .loop-flag .scheduler) k) true (c .loop-flag .inv k)
-            (sym (c .touches .ensures) ∙ w .if-touches .left))
-    ]
+    near-more (row-at rows (c .args .row)) (nth-row (workable rows) k) (c .loop-flag .flag) _ _ _ (c .loop-flag .inv k) (c .wake-sharing .ensures k)
 
 pub returns : need.returns
 returns g c k =
-    let rows = g .B·Book .rows (c .args .book .now) in
-    ( (λ h. ⊎-elim (λ s. inl (s .0, s .2, s .3)) inr (c .loop-flag .inv k .0 h))
-    , (λ h. c .loop-flag .inv k .1
-        (⊎-elim
-            (λ s. inl (s .0, omega (arith, flag-below rows (g .B·Book·met .proper (c .args .book .now)) (c .args .row) (s .0) (s .1), c .loop-flag-test .left), s .1, s .2))
-            inr
-            h))
+    let rows = g .B·Book .rows (c .args .book .now) in (
+      (λ h. ⊎-elim (λ s. inl (s .0, s .2, s .3)) inr (c .loop-flag .inv k .0 h)),
+      (λ h. c .loop-flag .inv k .1
+          (⊎-elim
+          (λ s. inl (s .0, omega (arith, flag-below rows (g .B·Book·met .proper (c .args .book .now)) (c .args .row) (s .0) (s .1), c .loop-flag-test .left), s .1, s .2))
+          inr
+          h)),
     )

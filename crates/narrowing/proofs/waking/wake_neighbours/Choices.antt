@@ -12,5 +12,5 @@ abbrev pub Inv-loop-flag : given.InvT-loop-flag
 Inv-loop-flag g l =
     (k : ℕ)
     → (g .S·Scheduler .waits (l .scheduler) k ≡ true)
-      ↔ (Below (row-at (g .B·Book .rows (l .book)) (l .row)) (nth-row (workable (g .B·Book .rows (l .book))) k) (l .flag)
-         ⊎ (g .S·Scheduler .waits (l .entry .scheduler) k ≡ true))
+    ↔ (Below (row-at (g .B·Book .rows (l .book)) (l .row)) (nth-row (workable (g .B·Book .rows (l .book))) k) (l .flag)
+    ⊎ (g .S·Scheduler .waits (l .entry .scheduler) k ≡ true))

@@ -1,16 +1,15 @@
-use mathlib.Core.Path.{_≡_, refl, sym, ap, _∙_}
-use mathlib.Core.Bool.{true, false, _&&_, _||_}
+use mathlib.Core.Path.{_≡_, sym, ap, _∙_}
+use mathlib.Core.Bool.{_&&_, _||_}
 use Prim.Native.Nat.{_<_, _≤_}
 use native.Mathlib.Omega.{arith}
 use lib.Dec.{eqb, ltb}
 use lib.ListN.{length}
-use Rattle.model.specs.Rows.{on, nth-row}
 use Rattle.std.proofs.shelf.Tests.{le-ltb}
+use Rattle.model.specs.Rows.{on, nth-row}
 use Rattle.narrowing.specs.Narrowing.{workable}
-use Rattle.narrowing.proofs.Wakes.{add-marked, pass-unmarked, all-marked}
+use Rattle.narrowing.proofs.Wakes.{mark-more, all-marked}
 use Rattle.narrowing.proofs.Workable.{few, row-work}
 use Rattle.narrowing.proofs.waking.wake_touching.Needs as need
-use Rattle.narrowing.proofs.waking.wake_touching.Needs.{then-touches, else-touches}
 
 pub loop-row-holds : need.loop-row-holds
 loop-row-holds g c k =
@@ -20,20 +19,10 @@ pub loop-row-again : need.loop-row-again
 loop-row-again g c k =
     let rows = g .B·Book .rows (c .args .book .now) in
     let low : c .loop-row .row < 1024 = omega (arith, few rows, c .workable-count-row-end .ensures, c .loop-row-test .taken) in
-    let asked : c .touches .result ≡ on (nth-row (workable rows) (c .loop-row .row)) (c .args .flag) =
-          c .touches .ensures ∙ ap (λ r. on r (c .args .flag)) (row-work rows (c .loop-row .row) low)
-    in
-    elim (c .if-touches .came)
-    [ then-touches w ↦
-        ap (λ s. g .S·Scheduler .waits s k) (w .scheduler-is)
-        ∙ (w .wake .ensures .added low .1 k
-        ∙ (ap (λ x. eqb k (c .loop-row .row) || x) (c .loop-row .inv k)
-        ∙ add-marked (λ j. on (nth-row (workable rows) j) (c .args .flag)) k (c .loop-row .row) _ (sym asked ∙ w .if-touches .taken)))
-    | else-touches w ↦
-        ap (λ s. g .S·Scheduler .waits s k) (w .scheduler-is)
-        ∙ (c .loop-row .inv k
-        ∙ pass-unmarked (λ j. on (nth-row (workable rows) j) (c .args .flag)) k (c .loop-row .row) _ (sym asked ∙ w .if-touches .left))
-    ]
+    c .wake-if-touching .ensures low k
+    ∙ (ap (λ r. (on r (c .args .flag) && eqb k (c .loop-row .row)) || g .S·Scheduler .waits (c .loop-row .scheduler) k) (row-work rows (c .loop-row .row) low)
+    ∙ (ap (λ x. (on (nth-row (workable rows) (c .loop-row .row)) (c .args .flag) && eqb k (c .loop-row .row)) || x) (c .loop-row .inv k)
+    ∙ mark-more (λ j. on (nth-row (workable rows) j) (c .args .flag)) k (c .loop-row .row) (g .S·Scheduler .waits (c .args .scheduler .now) k)))
 
 pub returns : need.returns
 returns g c k =
