@@ -75,9 +75,24 @@ fn refusals_have_numbers() -> Result<(), Fail> {
 #[test]
 fn refusals_are_said_in_words(rt: LibcRuntime) -> Result<(), Fail> {
     let heap = rt.alloc();
-    check_eq(AddRefusal::Flag.to_string(heap)?.as_str(), "refused 7: a flag above 255")?;
-    check_eq(AddRefusal::Twice.to_string(heap)?.as_str(), "refused 12: a flag twice in one row")?;
-    check_eq(AddRefusal::Full.to_string(heap)?.as_str(), "refused 13: the book is full")?;
-    check_eq(AddRefusal::NoLiteral.to_string(heap)?.as_str(), "refused 14: a clause without a literal")?;
-    check_eq(MakeRefusal::Memory.to_string(heap)?.as_str(), "refused 30: no memory")
+    check_eq(
+        AddRefusal::Flag.to_string(heap)?.as_str(),
+        "refused 7: a flag above 255",
+    )?;
+    check_eq(
+        AddRefusal::Twice.to_string(heap)?.as_str(),
+        "refused 12: a flag twice in one row",
+    )?;
+    check_eq(
+        AddRefusal::Full.to_string(heap)?.as_str(),
+        "refused 13: the book is full",
+    )?;
+    check_eq(
+        AddRefusal::NoLiteral.to_string(heap)?.as_str(),
+        "refused 14: a clause without a literal",
+    )?;
+    check_eq(
+        MakeRefusal::Memory.to_string(heap)?.as_str(),
+        "refused 30: no memory",
+    )
 }

@@ -1,6 +1,6 @@
 -- A strike leaves what the rules lead to.
 use mathlib.Core.Path.{_≡_, refl, sym, ap, subst, _∙_}
-use mathlib.Core.Bool.{Bool, true, false, cond, _&&_}
+use mathlib.Core.Bool.{Bool, true, false, cond}
 use mathlib.Core.List.{List, [], _∷_, map}
 use mathlib.Core.Logic.{⊎-elim}
 use Prim.Native.Nat.{ℕ}
@@ -14,7 +14,7 @@ use Rattle.model.specs.declared.domain.Domain.{Domain}
 use Rattle.model.specs.declared.domain.Domain.the-variants.{Empty, Zero, One, Open}
 use Rattle.table.specs.Refusals.{some-twice}
 use Rattle.table.specs.Relations.{flags-of, row-of}
-use Rattle.table.specs.Rules.{Claim, Rule, rules-of, nth-rule, sets-of, set-at, Hold, cut-to, Leads, is-empty, StrikeClosed, ClosureExists, BoolRules}
+use Rattle.table.specs.Rules.{Claim, Rule, rules-of, nth-rule, sets-of, set-at, cut-to, Leads, is-empty, StrikeClosed, ClosureExists, BoolRules}
 use Rattle.table.specs.declared.relation.Relation.{Relation}
 use Rattle.table.proofs.Computed.{holds, true-holds, walk, rounds, all-empty, rule-keeps, closed-stays, empty-empties, walk-closes}
 use Rattle.table.proofs.Narrowed.{struck-tried}

@@ -1,13 +1,13 @@
 -- Tests of the rules over all sets, computed.
-use mathlib.Core.Path.{_≡_, refl, sym, ap, ap₂, subst, _∙_}
+use mathlib.Core.Path.{_≡_, refl, sym, ap₂, subst, _∙_}
 use mathlib.Core.Bool.{Bool, true, false, not, cond, _&&_, _||_, Bool·beq}
 use mathlib.Core.List.{List, [], _∷_}
 use mathlib.Core.Logic.{⊎-elim}
 use Prim.Native.Nat.{ℕ, zero, suc}
 use native.Mathlib.Omega.{arith}
-use lib.ListN.{length, getD}
-use Rattle.std.proofs.shelf.Tests.{and-parts, and-from, or-cases, cases-bool, both-ways, not-true, false≢true}
-use Rattle.model.specs.Domains.{has, Has, only}
+use lib.ListN.{length}
+use Rattle.std.proofs.shelf.Tests.{and-parts, and-from, or-cases, both-ways, false≢true}
+use Rattle.model.specs.Domains.{has, only}
 use Rattle.model.specs.declared.domain.Domain.{Domain}
 use Rattle.model.specs.declared.domain.Domain.the-variants.{Empty, Zero, One, Open}
 use Rattle.model.proofs.Revise.{beq-true, beq-refl}

@@ -1,14 +1,14 @@
 -- Narrowing the sets of a relation's flags strikes the row that it means.
-use mathlib.Core.Path.{_≡_, refl, sym, ap, ap₂, subst, _∙_}
+use mathlib.Core.Path.{_≡_, refl, sym, ap, subst, _∙_}
 use mathlib.Core.Bool.{Bool, true, false}
-use mathlib.Core.List.{List, [], _∷_, map}
-use mathlib.Core.Logic.{_⊎_, inl, inr, ⊎-elim}
+use mathlib.Core.List.{[], _∷_, map}
+use mathlib.Core.Logic.{⊎-elim}
 use Prim.Native.Nat.{ℕ}
 use lib.ListN.{length, length-map}
-use Rattle.std.proofs.shelf.Tests.{cases-bool, both-ways, false≢true}
+use Rattle.std.proofs.shelf.Tests.{cases-bool, false≢true}
 use Rattle.model.specs.Domains.{Has}
-use Rattle.model.specs.Rows.{Row, elem, on, On}
-use Rattle.model.specs.Boxes.{Box, Supported}
+use Rattle.model.specs.Rows.{Row, on, On}
+use Rattle.model.specs.Boxes.{Box}
 use Rattle.model.specs.Strikes.{Struck, Emptied, Says, Strikes}
 use Rattle.model.specs.declared.domain.Domain.{Domain}
 use Rattle.model.specs.declared.domain.Domain.the-variants.{Empty, Zero, One, Open}
@@ -18,10 +18,10 @@ use Rattle.model.proofs.Sets.{same-sets}
 use Rattle.table.specs.Left.{left}
 use Rattle.table.specs.Narrowing.{with-sets, Tells, Narrows}
 use Rattle.table.specs.Refusals.{some-twice}
-use Rattle.table.specs.Relations.{first, parts, each, flags-of, allowed, row-of}
+use Rattle.table.specs.Relations.{first, parts, each, flags-of, row-of}
 use Rattle.table.specs.declared.relation.Relation.{Relation}
 use Rattle.table.specs.declared.relation.Relation.the-variants.{Equal, Not, And, Or}
-use Rattle.table.proofs.Tries.{tried, length-tried, Passing, kept, found, in-here}
+use Rattle.table.proofs.Tries.{tried, length-tried, kept, found, in-here}
 use Rattle.table.proofs.Writing.{map-same, alike, differ-on, with-sets-other, with-sets-here}
 
 -- what is left of the sets of the flags is what trying every tuple leaves

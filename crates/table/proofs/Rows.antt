@@ -1,6 +1,6 @@
 -- The rows of a table: they are proper, they are found by their number, and one more comes last.
 use mathlib.Core.Path.{_≡_, refl, sym, ap, subst, _∙_}
-use mathlib.Core.Bool.{Bool, true, false, _||_}
+use mathlib.Core.Bool.{true, false}
 use mathlib.Core.List.{List, [], _∷_, _++_, map, map-append}
 use mathlib.Core.Logic.{⊎-elim}
 use Prim.Native.Nat.{ℕ, zero, suc, _<_, _≤_}
@@ -17,7 +17,7 @@ use Rattle.std.specs.Of.Vec.{vec-len, vec-items}
 use Rattle.std.specs.declared.option.Option.{Option}
 use Rattle.std.specs.declared.option.Option.the-variants.{Some, None}
 use Rattle.std.specs.declared.result.Result.the-variants.{Ok, Err}
-use Rattle.model.specs.Rows.{Row, elem, On, Distinct, Proper, AllProper, no-row, nth-row, listed, row-at}
+use Rattle.model.specs.Rows.{Row, elem, Distinct, Proper, AllProper, no-row, nth-row, listed, row-at}
 use Rattle.model.specs.Boxes.{Box}
 use Rattle.model.specs.Strikes.{Strikes}
 use Rattle.model.specs.declared.refusal.AddRefusal.{AddRefusal}

@@ -1,13 +1,13 @@
 -- Trying every tuple, for any list of flags: it leaves exactly the values that have support.
 use mathlib.Core.Path.{_≡_, refl, sym, ap, ap₂, subst, _∙_}
-use mathlib.Core.Bool.{Bool, true, false, cond, _&&_, _||_}
+use mathlib.Core.Bool.{Bool, true, false, cond, _&&_}
 use mathlib.Core.List.{List, [], _∷_, map}
-use mathlib.Core.Logic.{_⊎_, inl, inr, ⊎-elim}
+use mathlib.Core.Logic.{⊎-elim}
 use Prim.Native.Nat.{ℕ}
 use lib.Dec.{eqb}
 use lib.ListN.{length}
-use Rattle.std.proofs.shelf.Tests.{cases-bool, both-ways, or-cases, or-parts, or-left, or-right, and-parts, and-from, eqb-true, eq-eqb, ne-eqb, false≢true, cond-true, cond-false}
-use Rattle.model.specs.Domains.{has, Has, set-of}
+use Rattle.std.proofs.shelf.Tests.{both-ways, or-cases, or-parts, or-left, or-right, and-parts, and-from, eqb-true, eq-eqb, ne-eqb, false≢true, cond-true, cond-false}
+use Rattle.model.specs.Domains.{has, Has}
 use Rattle.model.specs.Rows.{Valuation, elem}
 use Rattle.model.specs.Boxes.{Box}
 use Rattle.model.specs.declared.domain.Domain.{Domain}

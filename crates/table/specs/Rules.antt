@@ -2,8 +2,8 @@
 use mathlib.Core.Path.{_≡_}
 use mathlib.Core.Bool.{Bool, true, false, _||_}
 use mathlib.Core.List.{List, [], _∷_, map}
-use Prim.Native.Nat.{ℕ, _<_}
-use lib.ListN.{length, getD, set}
+use Prim.Native.Nat.{ℕ}
+use lib.ListN.{getD, set}
 use Rattle.model.specs.Domains.{only, cut-set}
 use Rattle.model.specs.Rows.{On, Distinct}
 use Rattle.model.specs.Boxes.{Box}

@@ -1,6 +1,8 @@
 ghost use mathlib.Core.Path.{_≡_};
+ghost use Prim.Native.Nat.{_≤_};
+ghost use lib.ListN.{length};
 ghost use Rattle.std.specs.Options.{Cases};
-ghost use Rattle.model.specs.Rows.{elem, no-row, row-at};
+ghost use Rattle.model.specs.Rows.{elem, listed, no-row, row-at};
 ghost use Rattle.model.specs.View.{at};
 ghost use Rattle.table.specs.Narrowing.{with-sets, Tells, Narrows};
 ghost use Rattle.table.specs.Relations.{flags-of, parts, each, row-of};
@@ -79,6 +81,14 @@ fn has_flag(relation: Relation<u8>, flag: usize) -> bool
 }
 
 impl Table {
+    // The number of rows; every one of them has a number.
+    fn len(&self) -> usize
+        ensures listed { λ r. ⌜ r ≡ length (listed (rows-of (now (self .entry)))) ⌝ }
+        ensures few { λ r. ⌜ r ≤ 512 ⌝ }
+    {
+        self.rows.len()
+    }
+
     // The row of a number.
     fn row(&self, number: u16) -> Option<&TableRow>
         ensures { λ r. ⌜ Cases r (row-at (rows-of (now (self .entry))) number ≡ no-row) (λ x. row-at (rows-of (now (self .entry))) number ≡ row-of (now x .relation)) ⌝ }
@@ -91,7 +101,7 @@ pub impl Book for Table as TableBook {
     ghost rows = { rows-of };
 
     fn count(&self) -> u16 {
-        self.rows.len() as u16
+        self.len() as u16
     }
 
     fn touches(&self, row: u16, flag: usize) -> bool {
