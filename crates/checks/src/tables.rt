@@ -5,7 +5,7 @@ use std::test::*;
 use table::relation::Relation;
 use table::table::Table;
 
-pub fn table_of(rt: LibcRuntime, relations: &[Relation<usize>]) -> Result<Table, Fail> {
+pub(crate) fn table_of(rt: LibcRuntime, relations: &[Relation<usize>]) -> Result<Table, Fail> {
     let mut table = Table::new(rt.alloc())?;
     for relation in relations {
         table.add(*relation)?;

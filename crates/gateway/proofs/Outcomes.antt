@@ -5,7 +5,7 @@ use mathlib.Core.List.{List}
 use Prim.Native.Nat.{ℕ}
 use Rattle.model.specs.Rows.{Row}
 use Rattle.model.specs.Boxes as boxes
-use Rattle.model.specs.Boxes.{Box, Largest}
+use Rattle.model.specs.Boxes.{Box}
 use Rattle.model.specs.Facts.{Facts, told, LargestUnder, cut}
 use Rattle.model.proofs.Cutting.{telling}
 use Rattle.narrowing.specs.Narrowing.{Narrowed}
@@ -13,15 +13,15 @@ use Rattle.narrowing.specs.declared.Verdict.{Verdict}
 use Rattle.narrowing.specs.declared.Verdict.the-variants.{Alive, Dead}
 use Rattle.gateway.specs.Telling.{Tells}
 
-module _ (rows : List Row) (held : Facts) (f : ℕ) (v : Bool) (before mid after : Box) (e : mid ≡ cut before f v) (l : LargestUnder rows held before) where
-  under : (verdict : Verdict) (n : Narrowed rows mid after verdict) → LargestUnder rows (told held f v) (n .largest)
-  under verdict n = telling rows held f v before (n .largest) l .1 (subst (λ b. Largest rows b (n .largest)) e (n .is-largest))
+module _ (rows : List Row) (held : Facts) (f : ℕ) (v : Bool) (before after : Box) (l : LargestUnder rows held before) where
+  under : (verdict : Verdict) (n : Narrowed rows (cut before f v) after verdict) → LargestUnder rows (told held f v) (n .largest)
+  under verdict n = telling rows held f v before (n .largest) l .1 (n .is-largest)
 
-  pub tells-alive : (verdict : Verdict) → Narrowed rows mid after verdict → (verdict ≡ Dead → ⊥) → Tells verdict rows (told held f v) before after
+  pub tells-alive : (verdict : Verdict) → Narrowed rows (cut before f v) after verdict → (verdict ≡ Dead → ⊥) → Tells verdict rows (told held f v) before after
   tells-alive Alive n d = (subst (LargestUnder rows (told held f v)) (sym (n .outcome .1)) (under Alive n), subst boxes.Alive (sym (n .outcome .1)) (n .outcome .0))
   tells-alive Dead n d = absurd (d refl)
 
-  pub tells-dead : (verdict : Verdict) → Narrowed rows mid after verdict → verdict ≡ Dead → Tells verdict rows (told held f v) before before
+  pub tells-dead : (verdict : Verdict) → Narrowed rows (cut before f v) after verdict → verdict ≡ Dead → Tells verdict rows (told held f v) before before
   tells-dead verdict n d =
-      let m : Narrowed rows mid after Dead = subst (Narrowed rows mid after) d n in
+      let m : Narrowed rows (cut before f v) after Dead = subst (Narrowed rows (cut before f v) after) d n in
       subst (λ w. Tells w rows (told held f v) before before) (sym d) ((m .largest, under Dead m, m .outcome .0), refl)

@@ -1,7 +1,11 @@
 // A story: rules over named flags, the facts that a caller tells, and what each of them comes to, in sentences.
 ghost use mathlib.Core.Path.{_≡_};
 ghost use mathlib.Core.Bool.{cond};
+ghost use mathlib.Core.List.{map};
 ghost use lib.Chars.{codes};
+ghost use Rattle.std.specs.Vec.{made};
+ghost use Rattle.table.specs.Relations.{row-of};
+ghost use Rattle.table.specs.Tables.{rows-of};
 use crate::telling::tell;
 use model::boxes::FlagBox;
 use model::domain::Domain;
@@ -41,7 +45,9 @@ fn yes_or_no(value: bool) -> &'static str
 }
 
 // The rules as a table.
-fn table_of(rt: &LibcRuntime, rules: &[Relation<usize>]) -> Result<Table, AnyError> {
+fn table_of(rt: &LibcRuntime, rules: &[Relation<usize>]) -> Result<Table, AnyError>
+    ensures { λ r. ⌜ made r (λ t. rows-of t ≡ map row-of (now (rules .entry))) ⌝ }
+{
     let mut table = Table::new(rt.alloc())?;
     for rule in rules {
         table.add(*rule)?;
@@ -51,7 +57,7 @@ fn table_of(rt: &LibcRuntime, rules: &[Relation<usize>]) -> Result<Table, AnyErr
 
 impl Story<'_> {
     // Tells the facts, and says what each comes to.
-    pub fn tell(self, rt: &LibcRuntime) -> Result<(), AnyError> {
+    pub(crate) fn tell(self, rt: &LibcRuntime) -> Result<(), AnyError> {
         let table = table_of(rt, self.rules)?;
         let mut ring = Ring::new();
         let mut b = FlagBox::all_open();

@@ -1,11 +1,26 @@
 ghost use Rattle.model.specs.View.{at};
-ghost use Rattle.narrowing.specs.Narrowing.{workable};
+ghost use Rattle.model.specs.Facts.{cut};
+ghost use Rattle.narrowing.specs.Narrowing.{workable, Narrowed};
 ghost use Rattle.gateway.specs.Telling.{Told};
 use model::book::Book;
 use model::boxes::FlagBox;
 use model::scheduler::Scheduler;
 use narrowing::Verdict;
 use narrowing::narrow;
+
+// Cuts a flag to a value and narrows from there.
+fn narrow_cut<B: Book, S: Scheduler>(
+    book: &B,
+    scheduler: &mut S,
+    b: &mut FlagBox,
+    flag: u8,
+    value: bool,
+) -> Verdict
+    ensures { λ r. ⌜ Narrowed (workable (B·Book .rows (now (book .entry)))) (cut (at (now (b .entry))) flag value) (at (now (b .exit))) r ⌝ }
+{
+    b.cut(flag, value);
+    narrow(book, scheduler, b)
+}
 
 // Tells one fact more to the largest box under the facts so far. Where it fits, the box is then the largest under all of them; where it
 // contradicts them, the box is as before.
@@ -19,8 +34,7 @@ pub fn tell<B: Book, S: Scheduler>(
     ensures { λ r. ⌜ Told (workable (B·Book .rows (now (book .entry)))) (at (now (b .entry))) flag value (at (now (b .exit))) r ⌝ }
 {
     let before = *b;
-    b.cut(flag, value);
-    let verdict = narrow(book, scheduler, b);
+    let verdict = narrow_cut(book, scheduler, b, flag, value);
     if let Verdict::Dead = verdict {
         *b = before;
     }

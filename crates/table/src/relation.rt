@@ -3,7 +3,7 @@ ghost use Rattle.table.specs.Relations.{first, second, third};
 
 // A row of a table is one of four kinds: x = y, not x = y, x and y = z, x or y = z. `Relation<usize>` is a row as it is handed in,
 // `Relation<u8>` one that is stored, and `Relation<Domain>` holds the sets of a row's flags. A row of two flags has no third.
-#[derive(Clone, Copy, PartialEq)]
+#[derive(Clone, Copy, PartialEq, Eq, Debug)]
 pub enum Relation<T> {
     Equal(T, T),
     Not(T, T),

@@ -4,8 +4,8 @@ use Rattle.gateway.proofs.telling.tell.Needs as need
 
 pub returns-in-Dead : need.returns-in-Dead
 returns-in-Dead g c =
-    λ held l. tells-dead (workable (g .B·Book .rows (c .args .book .now))) held (c .args .flag) (c .args .value) _ _ _ (c .cut .ensures .after) l _ (c .narrow-verdict .ensures) (c .in-Dead .is)
+    λ held l. tells-dead (workable (g .B·Book .rows (c .args .book .now))) held (c .args .flag) (c .args .value) _ _ l _ (c .narrow-cut-verdict .ensures) (c .in-Dead .is)
 
 pub returns-in-rest : need.returns-in-rest
 returns-in-rest g c =
-    λ held l. tells-alive (workable (g .B·Book .rows (c .args .book .now))) held (c .args .flag) (c .args .value) _ _ _ (c .cut .ensures .after) l _ (c .narrow-verdict .ensures) (c .in-rest .not-Dead)
+    λ held l. tells-alive (workable (g .B·Book .rows (c .args .book .now))) held (c .args .flag) (c .args .value) _ _ l _ (c .narrow-cut-verdict .ensures) (c .in-rest .not-Dead)
