@@ -2,10 +2,6 @@
 #[cfg(test)]
 mod adding;
 #[cfg(test)]
-mod narrowing;
-#[cfg(test)]
 mod ring;
 #[cfg(test)]
 mod striking;
-#[cfg(test)]
-mod tables;

@@ -1,5 +1,5 @@
 // The flags, the rules and the facts of the two examples. A flag is known by its place in the list of names.
-use crate::story::Fact;
+use crate::Fact;
 use table::relation::Relation;
 use table::relation::Relation::And;
 use table::relation::Relation::Equal;

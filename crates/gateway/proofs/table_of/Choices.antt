@@ -3,7 +3,7 @@ use mathlib.Core.List.{map}
 use lib.ListN.{take}
 use Rattle.table.specs.Relations.{row-of}
 use Rattle.table.specs.Tables.{rows-of}
-use Rattle.gateway.proofs.story.table_of.Given as given
+use Rattle.gateway.proofs.table_of.Given as given
 
 -- the table has the rules so far
 abbrev pub Inv-loop-rule : given.InvT-loop-rule
