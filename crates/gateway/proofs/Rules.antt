@@ -1,5 +1,5 @@
 -- A table to which rules were added one after another.
-use mathlib.Core.Path.{_≡_, refl, sym, ap, ap₂, _∙_}
+use mathlib.Core.Path.{_≡_, sym, ap, _∙_}
 use mathlib.Core.List.{List, [], _∷_, _++_, map}
 use Prim.Native.Nat.{ℕ, _+_, _<_}
 use native.Mathlib.Omega.{arith}
@@ -7,10 +7,8 @@ use lib.ListN.{length, getD, take}
 use Rattle.std.proofs.shelf.Lists.{take-more, map-append}
 use Rattle.std.specs.declared.option.Option.{Option}
 use Rattle.std.specs.declared.option.Option.the-variants.{Some, None}
-use Rattle.std.specs.declared.result.Result.{Result}
-use Rattle.std.specs.declared.result.Result.the-variants.{Ok, Err}
+use Rattle.std.specs.declared.result.Result.the-variants.{Ok}
 use Rattle.model.specs.declared.refusal.AddRefusal.{AddRefusal}
-use Rattle.model.specs.Rows.{Row}
 use Rattle.table.specs.Relations.{row-of}
 use Rattle.table.specs.Tables.{rows-of, Added}
 use Rattle.table.specs.declared.relation.Relation.{Relation}

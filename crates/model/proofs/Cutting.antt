@@ -1,8 +1,8 @@
 -- Boxes under facts, and a box cut to one fact more.
-use mathlib.Core.Path.{_≡_, refl, sym, ap, subst, _∙_}
-use mathlib.Core.Bool.{Bool, true, false, not, cond, _&&_, _||_, Bool·beq}
+use mathlib.Core.Path.{_≡_, refl, sym, subst, _∙_}
+use mathlib.Core.Bool.{Bool, true, false, not, cond, _&&_, Bool·beq}
 use mathlib.Core.Logic.{_↔_, _⊎_, inl, inr, ⊎-elim}
-use Prim.Native.Nat.{ℕ, _<_}
+use Prim.Native.Nat.{ℕ}
 use native.Mathlib.Omega.{arith}
 use lib.Dec.{eqb}
 use lib.ListN.{length}
@@ -10,7 +10,7 @@ use Rattle.std.proofs.shelf.Lists.{getD-default}
 use Rattle.std.proofs.shelf.Tests.{cases-bool, both-ways, or-cases, or-left, or-right, and-parts, and-from, eqb-true, eq-eqb, ne-eqb, not-true, not-from-false, false≢true, true≢false, cond-true, cond-false}
 use Rattle.model.specs.Domains.{has, Has, cut-set}
 use Rattle.model.specs.Boxes.{Box, with-set, _⊆_, Alive}
-use Rattle.model.specs.Facts.{Facts, told, Within, LargestUnder, facts-box, cut}
+use Rattle.model.specs.Facts.{Facts, told, Within, facts-box, cut}
 use Rattle.model.specs.States.{State, value, Agrees, Lies}
 use Rattle.model.specs.Laws.{LargestFrom, LargestTold}
 use Rattle.model.specs.declared.domain.Domain.{Domain}

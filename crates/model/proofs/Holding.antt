@@ -5,11 +5,11 @@ use mathlib.Core.List.{List}
 use mathlib.Core.Logic.{⊎-elim}
 use Prim.Native.Nat.{ℕ, zero, suc, _<_, _≤_}
 use native.Mathlib.Omega.{arith}
-use lib.Dec.{eqb, ltb}
+use lib.Dec.{ltb}
 use lib.ListN.{length, getD, set, replicate}
 use lib.Seq.{getD-set-same, getD-set-other}
 use Rattle.std.proofs.shelf.Lists.{getD-default}
-use Rattle.std.proofs.shelf.Tests.{cases-bool, cases-eq, cases-lt, cond-true, cond-false, ltb-true, lt-ltb, le-ltb, true≢false, false≢true}
+use Rattle.std.proofs.shelf.Tests.{cases-eq, cases-lt, cond-true, cond-false, lt-ltb, le-ltb, true≢false, false≢true}
 use Rattle.std.specs.Options.{Cases, isSome}
 use Rattle.std.specs.declared.option.Option.{Option}
 use Rattle.std.specs.declared.option.Option.the-variants.{Some, None}

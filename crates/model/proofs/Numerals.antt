@@ -1,9 +1,9 @@
 -- States compared as numerals.
 use mathlib.Core.Path.{_≡_, refl, sym, ap₂, _∙_}
-use mathlib.Core.Bool.{Bool, true, false, cond}
-use mathlib.Core.List.{List, [], _∷_}
+use mathlib.Core.Bool.{Bool, true, false}
+use mathlib.Core.List.{[], _∷_}
 use mathlib.Core.Logic.{_⊎_, inl, inr, ⊎-elim}
-use Prim.Native.Nat.{ℕ, zero, suc, _+_, _*_, _^_, _<_, _≤_, suc-le-suc}
+use Prim.Native.Nat.{ℕ, zero, suc, _^_, _<_, suc-le-suc}
 use native.Mathlib.Nat.{le-of-suc-le-suc, pow-suc}
 use native.Mathlib.Omega.{arith}
 use lib.ListN.{length}

@@ -1,13 +1,13 @@
 -- A strike as a function, and the largest consistent box by repeating it: so that one exists.
 use mathlib.Core.Path.{_≡_, refl, sym, ap, ap₂, subst, _∙_, fun-ext}
-use mathlib.Core.Bool.{Bool, true, false, not, cond, _&&_, _||_, Bool·beq}
+use mathlib.Core.Bool.{Bool, true, false, cond, _&&_, _||_, Bool·beq}
 use mathlib.Core.List.{List, [], _∷_, map}
-use mathlib.Core.Logic.{_↔_, _⊎_, inl, inr, ⊎-elim}
-use Prim.Native.Nat.{ℕ, zero, suc, _+_, _<_, _≤_}
+use mathlib.Core.Logic.{_⊎_, ⊎-elim}
+use Prim.Native.Nat.{ℕ, zero, suc, _<_, _≤_}
 use native.Mathlib.Omega.{arith}
 use lib.Dec.{eqb}
-use lib.ListN.{length, getD}
-use Rattle.std.proofs.shelf.Tests.{cases-bool, cases-eq, cases-lt, both-ways, or-cases, or-parts, or-left, or-right, and-parts, and-from, eqb-true, eq-eqb, ne-eqb, false≢true, true≢false}
+use lib.ListN.{length}
+use Rattle.std.proofs.shelf.Tests.{cases-bool, cases-lt, or-cases, or-left, or-right, and-parts, and-from, eqb-true, eq-eqb, false≢true}
 use Rattle.model.specs.Domains.{has, Has, set-of}
 use Rattle.model.specs.Rows.{Valuation, Row, elem, on, On, nth-row, Proper, AllProper}
 use Rattle.model.specs.Boxes.{Box, Supported, RowConsistent, Consistent, _⊆_, Largest}

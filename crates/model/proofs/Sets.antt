@@ -1,10 +1,10 @@
 -- Sets of values and boxes, compared by what they have.
 use mathlib.Core.Path.{_≡_, refl, sym, subst, _∙_}
-use mathlib.Core.Bool.{Bool, true, false, not, cond, _&&_}
+use mathlib.Core.Bool.{Bool, true, false, cond}
 use mathlib.Core.Logic.{_⊎_, inl, inr, ⊎-elim}
 use Prim.Native.Nat.{ℕ, zero, suc, _<_}
 use native.Mathlib.Omega.{arith}
-use Rattle.std.proofs.shelf.Tests.{cases-bool, cases-eq, both-ways, true≢false, false≢true, not-true}
+use Rattle.std.proofs.shelf.Tests.{cases-bool, cases-eq, true≢false, false≢true, not-true}
 use Rattle.model.specs.Domains.{has, Has, set-of, only, cut-set}
 use Rattle.model.specs.Boxes.{Box, _⊆_}
 use Rattle.model.specs.declared.domain.Domain.{Domain}

@@ -1,27 +1,26 @@
 -- The laws of boxes.
-use mathlib.Core.Path.{_≡_, refl, sym, ap, subst, _∙_, fun-ext}
-use mathlib.Core.Bool.{Bool, true, false, not, cond}
+use mathlib.Core.Path.{_≡_, refl, sym, subst, _∙_, fun-ext}
+use mathlib.Core.Bool.{Bool, true, false, cond}
 use mathlib.Core.List.{List, [], _∷_}
-use mathlib.Core.Logic.{_↔_, _⊎_, inl, inr, ⊎-elim}
-use Prim.Native.Nat.{ℕ, _<_, _≤_}
+use mathlib.Core.Logic.{_⊎_, inl, inr, ⊎-elim}
+use Prim.Native.Nat.{ℕ, _<_}
 use native.Mathlib.Omega.{arith}
 use lib.Dec.{eqb, ltb}
-use lib.ListN.{length, getD}
-use Rattle.std.proofs.shelf.Lists.{getD-past, getD-default}
-use Rattle.std.proofs.shelf.Tests.{cases-bool, cases-lt, both-ways, or-cases, or-left, or-right, eqb-true, eq-eqb, ltb-true, lt-ltb, false≢true, cond-true}
+use lib.ListN.{length}
+use Rattle.std.proofs.shelf.Lists.{getD-past}
+use Rattle.std.proofs.shelf.Tests.{cases-bool, both-ways, or-cases, or-left, or-right, eqb-true, eq-eqb, ltb-true, lt-ltb, false≢true, cond-true}
 use Rattle.model.specs.Domains.{Has, only}
-use Rattle.model.specs.Rows.{Valuation, Row, elem, on, On, no-row, nth-row, listed, Meets, MeetsAll, FlagsBelow, Same, Covers}
-use Rattle.model.specs.Boxes.{Box, Supported, RowConsistent, Consistent, _⊆_, Largest}
-use Rattle.model.specs.Facts.{Facts, LargestUnder, facts-box, Within}
-use Rattle.model.specs.States.{State, value, Agrees, Lies}
+use Rattle.model.specs.Rows.{Valuation, Row, elem, on, no-row, nth-row, listed, MeetsAll, Same, Covers}
+use Rattle.model.specs.Boxes.{Box, Supported, RowConsistent, Consistent}
+use Rattle.model.specs.Facts.{facts-box}
+use Rattle.model.specs.States.{value}
 use Rattle.model.specs.Strikes.{Struck, Strikes, Emptied, Says}
-use Rattle.model.specs.Laws.{LargestExists, LargestUnique, LargestFewer, StatesKept, AllowedKept, SinglesMeet, OrderFree, StrikeFixed, StrikePast, BoxLaws}
-use Rattle.model.specs.declared.domain.Domain.{Domain}
-use Rattle.model.specs.declared.domain.Domain.the-variants.{Empty, Zero, One, Open}
+use Rattle.model.specs.Laws.{LargestUnique, LargestFewer, StatesKept, AllowedKept, SinglesMeet, OrderFree, StrikeFixed, StrikePast, BoxLaws}
+use Rattle.model.specs.declared.domain.Domain.the-variants.{Empty}
 use Rattle.model.specs.declared.strike.Strike.{Strike}
 use Rattle.model.specs.declared.strike.Strike.the-variants.{Unchanged, Changed, Dead}
 use Rattle.model.proofs.Sets.{same-sets, set-decides, has-only, only-has}
-use Rattle.model.proofs.Striking.{supported-more, largest-unique}
+use Rattle.model.proofs.Striking.{largest-unique}
 use Rattle.model.proofs.Revise.{map-agrees, revise, revise-struck, largest-exists}
 use Rattle.model.proofs.Cutting.{largest-from, telling, facts-lies}
 use Rattle.model.proofs.Tuples.{tuples}

@@ -1,6 +1,6 @@
 -- One step of settling, over the waiting numbers and the box.
 use mathlib.Core.Path.{_≡_, refl, sym, ap, subst, _∙_}
-use mathlib.Core.Bool.{Bool, true, false, not, _&&_, _||_}
+use mathlib.Core.Bool.{Bool, true, false, not, _&&_}
 use mathlib.Core.List.{List, [], _∷_}
 use mathlib.Core.Logic.{_⊎_, inl, inr, ⊎-elim}
 use Prim.Native.Nat.{ℕ, _<_}
@@ -10,10 +10,9 @@ use Rattle.std.proofs.shelf.Tests.{cases-bool, cases-eq, both-ways, or-cases, o
 use Rattle.model.specs.Domains.{Has}
 use Rattle.model.specs.Rows.{Row, elem, On, AllProper, nth-row, row-at}
 use Rattle.model.specs.Boxes as boxes
-use Rattle.model.specs.Boxes.{Box, RowConsistent, Consistent, _⊆_, Largest}
+use Rattle.model.specs.Boxes.{Box, RowConsistent, Consistent, _⊆_}
 use Rattle.model.specs.Strikes.{Strikes, Emptied}
 use Rattle.model.specs.Waiting.{NoneWaits}
-use Rattle.model.specs.declared.domain.Domain.the-variants.{Empty}
 use Rattle.model.specs.declared.strike.Strike.{Strike}
 use Rattle.model.specs.declared.strike.Strike.the-variants.{Unchanged, Changed, Dead as Died}
 use Rattle.model.proofs.Sets.{inside-empty}
@@ -22,7 +21,6 @@ use Rattle.model.proofs.Striking.{consistent-same, strike-shrinks, strike-keeps
 use Rattle.model.proofs.Revise.{largest-exists}
 use Rattle.narrowing.specs.Narrowing.{workable, Pending, Narrowed}
 use Rattle.narrowing.specs.Waking.{Share, WokenNear}
-use Rattle.narrowing.specs.declared.Verdict.{Verdict}
 use Rattle.narrowing.specs.declared.Verdict.the-variants.{Alive, Dead}
 use Rattle.narrowing.proofs.Workable.{row-work, row-there, work-proper, flag-below}
 

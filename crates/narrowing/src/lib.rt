@@ -1,6 +1,6 @@
 // Narrowing: striking rows until every value that is left has support from every row.
 ghost use Rattle.model.specs.View.{at};
-ghost use Rattle.narrowing.specs.Narrowing.{workable, Pending, Settled, Narrowed};
+ghost use Rattle.narrowing.specs.Narrowing.{workable, Settled, Narrowed};
 use model::book::Book;
 use model::boxes::FlagBox;
 use model::scheduler::Scheduler;

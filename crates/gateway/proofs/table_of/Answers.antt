@@ -1,6 +1,5 @@
 use mathlib.Core.Path.{_∙_, ap}
 use mathlib.Core.List.{map}
-use native.Mathlib.Omega.{arith}
 use Rattle.std.proofs.shelf.Lists.{take-all}
 use Rattle.table.specs.Relations.{row-of}
 use Rattle.gateway.proofs.Rules.{rules-more}

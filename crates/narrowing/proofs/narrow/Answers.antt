@@ -1,8 +1,3 @@
-use mathlib.Core.Path.{_≡_, sym, ap, _∙_}
-use mathlib.Core.Bool.{_||_}
-use mathlib.Core.Logic.{inl}
-use lib.ListN.{length}
-use Rattle.std.proofs.shelf.Tests.{or-left, lt-ltb}
 use Rattle.narrowing.specs.Narrowing.{workable}
 use Rattle.narrowing.proofs.Steps.{dead-already}
 use Rattle.narrowing.proofs.Workable.{work-proper}
