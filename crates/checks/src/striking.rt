@@ -191,3 +191,17 @@ fn a_fact_goes_along_a_chain(rt: LibcRuntime) -> Result<(), Fail> {
     }
     Ok(())
 }
+
+// Narrowing takes what waits already, also numbers of rows that are not there.
+#[test]
+fn all_1024_numbers_wait_at_the_start(rt: LibcRuntime) -> Result<(), Fail> {
+    let mut ring = Ring::new();
+    for row in 0..1024u16 {
+        check(ring.wake(row))?;
+    }
+    let mut b = FlagBox::all_open();
+    b.cut(1, true);
+    check_eq(narrow(&four_flags(rt)?, &mut ring, &mut b), Verdict::Alive)?;
+    check_sets(&b, [Domain::Zero, Domain::One, Domain::Zero, Domain::Zero])?;
+    check_eq(ring.take(), None)
+}
