@@ -1,7 +1,7 @@
 // The ring with every number waiting, and its order.
 use model::scheduler::Scheduler;
 use schedulers::ring::Ring;
-use schedulers::ring::scheduling::RingScheduler;
+use schedulers::ring::RingScheduler;
 use std::test::*;
 
 #[test]

@@ -15,7 +15,7 @@ use narrowing::VerdictDebug;
 use narrowing::VerdictPartialEq;
 use narrowing::narrow;
 use schedulers::ring::Ring;
-use schedulers::ring::scheduling::RingScheduler;
+use schedulers::ring::RingScheduler;
 use std::test::*;
 use table::decide::decide;
 use table::relation::Relation;

@@ -21,7 +21,7 @@ use model::refusal::MakeRefusalError;
 use narrowing::Verdict;
 use narrowing::narrow;
 use schedulers::ring::Ring;
-use schedulers::ring::scheduling::RingScheduler;
+use schedulers::ring::RingScheduler;
 use std::error::AnyError;
 use table::relation::Relation;
 use table::table::Table;

@@ -15,7 +15,7 @@ use Rattle.model.specs.Boxes.{Box, Supported, RowConsistent, Consistent}
 use Rattle.model.specs.Facts.{facts-box}
 use Rattle.model.specs.States.{value}
 use Rattle.model.specs.Strikes.{Struck, Strikes, Emptied, Says}
-use Rattle.model.specs.Laws.{LargestUnique, LargestFewer, StatesKept, AllowedKept, SinglesMeet, OrderFree, StrikeFixed, StrikePast, BoxLaws}
+use Rattle.model.specs.Laws.{LargestUnique, LargestFewer, FactsLargest, FactsFewer, StatesKept, AllowedKept, SinglesMeet, OrderFree, StrikeFixed, StrikePast, BoxLaws}
 use Rattle.model.specs.declared.domain.Domain.the-variants.{Empty}
 use Rattle.model.specs.declared.strike.Strike.{Strike}
 use Rattle.model.specs.declared.strike.Strike.the-variants.{Unchanged, Changed, Dead}
@@ -31,6 +31,15 @@ unique rows top a b p q = fun-ext (largest-unique rows top a b p q)
 
 fewer : LargestFewer
 fewer rows small large a b p l m = m .greatest a (l .consistent) (λ f v h. p f v (l .within f v h))
+
+facts : FactsLargest
+facts rows fit held = (
+  (let x = largest-exists rows fit (facts-box held) in (x .0, largest-from rows held (x .0) .1 (x .1))),
+  (λ a b p q. unique rows (facts-box held) a b (largest-from rows held a .0 p) (largest-from rows held b .0 q)),
+)
+
+more : FactsFewer
+more rows held others b d p l m = l .greatest d (m .consistent) (λ f v e. m .within f v (p f v e))
 
 -- the box of one value for each flag below n
 abbrev point : ℕ → Valuation → Box
@@ -156,4 +165,4 @@ past : StrikePast
 past rows k before after x l s = past-none before after x (subst (λ r. Strikes r before after x) (getD-past (listed rows) k no-row l) s)
 
 pub box-laws : BoxLaws
-box-laws = record { exists = largest-exists; unique = unique; fewer = fewer; from = largest-from; telling = telling; states = states; allowed = allowed; singles = singles; orderless = orderless; strikes = strikes; past = past; tuples = tuples; compare = compare; tell = tell }
+box-laws = record { exists = largest-exists; unique = unique; fewer = fewer; from = largest-from; facts = facts; more = more; telling = telling; states = states; allowed = allowed; singles = singles; orderless = orderless; strikes = strikes; past = past; tuples = tuples; compare = compare; tell = tell }

@@ -30,6 +30,14 @@ LargestFewer = (rows : List Row) (small large a b : Box) → small ⊆ large →
 abbrev pub LargestFrom : Type 0
 LargestFrom = (rows : List Row) (held : Facts) (b : Box) → LargestUnder rows held b ↔ Largest rows (facts-box held) b
 
+-- so under any facts there is one, and only one
+abbrev pub FactsLargest : Type 0
+FactsLargest = (rows : List Row) → AllProper rows → (held : Facts) → ((b : Box) × LargestUnder rows held b) × ((a b : Box) → LargestUnder rows held a → LargestUnder rows held b → a ≡ b)
+
+-- more facts leave fewer values
+abbrev pub FactsFewer : Type 0
+FactsFewer = (rows : List Row) (held more : Facts) (b d : Box) → ((f : ℕ) (v : Bool) → held f v ≡ true → more f v ≡ true) → LargestUnder rows held b → LargestUnder rows more d → d ⊆ b
+
 -- the largest box under one fact more is the largest inside the former one cut to that fact
 abbrev pub LargestTold : Type 0
 LargestTold = (rows : List Row) (held : Facts) (f : ℕ) (v : Bool) (b d : Box) → LargestUnder rows held b → LargestUnder rows (told held f v) d ↔ Largest rows (cut b f v) d
@@ -94,6 +102,8 @@ pub record BoxLaws : Type 0 where
   pub unique : LargestUnique
   pub fewer : LargestFewer
   pub from : LargestFrom
+  pub facts : FactsLargest
+  pub more : FactsFewer
   pub telling : LargestTold
   pub states : StatesKept
   pub allowed : AllowedKept

@@ -1,7 +1,7 @@
 ghost use mathlib.Core.List.{List};
 ghost use Rattle.model.specs.Boxes.{Box as Sets, _⊆_, Largest};
 ghost use Rattle.model.specs.Rows.{Row};
-ghost use Rattle.model.specs.Laws.{BoxLaws, LargestExists, LargestUnique, LargestFrom, LargestTold, StatesKept, AllowedKept, SinglesMeet, OrderFree, StrikeFixed, StrikePast, SupportByTuple, NumeralsCompare, NumeralsTell};
+ghost use Rattle.model.specs.Laws.{BoxLaws, LargestExists, LargestUnique, LargestFrom, FactsLargest, FactsFewer, LargestTold, StatesKept, AllowedKept, SinglesMeet, OrderFree, StrikeFixed, StrikePast, SupportByTuple, NumeralsCompare, NumeralsTell};
 
 // All laws at once; their proof stands behind this function.
 fn box_laws() -> u8
@@ -16,6 +16,8 @@ pub fn box_laws_stand() -> u8
     ensures unique { λ _. ⌜ LargestUnique ⌝ }
     ensures fewer { λ _. ⌜ ((rows : List Row) (small large a b : Sets) → small ⊆ large → Largest rows small a → Largest rows large b → a ⊆ b) ⌝ }
     ensures from { λ _. ⌜ LargestFrom ⌝ }
+    ensures facts { λ _. ⌜ FactsLargest ⌝ }
+    ensures more { λ _. ⌜ FactsFewer ⌝ }
     ensures telling { λ _. ⌜ LargestTold ⌝ }
     ensures states { λ _. ⌜ StatesKept ⌝ }
     ensures allowed { λ _. ⌜ AllowedKept ⌝ }

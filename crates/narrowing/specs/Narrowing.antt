@@ -15,7 +15,8 @@ use Rattle.narrowing.specs.declared.Verdict.the-variants.{Alive, Dead}
 abbrev pub workable : List Row → List Row
 workable rows = take 1024 rows
 
--- alive: the box is the largest one, which is alive; dead: the largest one is dead, and the box lies between it and the one given
+-- alive: the box is the largest one, which is alive; dead: the largest one is dead, and the box, which depends on the order of strikes, is
+-- free between it and the one given
 abbrev pub Outcome : Verdict → Box → Box → Box → Type 0
 Outcome Alive before largest after = boxes.Alive largest × (after ≡ largest)
 Outcome Dead before largest after = boxes.Dead largest × (largest ⊆ after) × (after ⊆ before)

@@ -3,6 +3,7 @@ ghost use mathlib.Core.Bool.{false};
 ghost use Prim.Native.Nat.{ℕ, _<_, _≤_};
 ghost use lib.ListN.{length};
 ghost use Rattle.schedulers.specs.Marks.{marked};
+pub use scheduling::RingScheduler;
 
 // A scheduler that goes round: it gives the first waiting number after the one last taken, at first from 0.
 #[derive(Drop)]
@@ -18,4 +19,4 @@ pub struct Ring {
     ghost quiet: { (k : ℕ) → bound ≤ k → marked waiting k ≡ false },
 }
 
-pub mod scheduling;
+mod scheduling;
