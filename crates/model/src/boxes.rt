@@ -52,10 +52,10 @@ impl FlagBox {
     }
 
     // Gives a flag another set.
-    pub fn put(&mut self, flag: u8, set: Domain)
-        ensures { λ _. ⌜ at (now (self .exit)) ≡ with-set (at (now (self .entry))) flag set ⌝ }
+    pub fn put(&mut self, flag: u8, domain: Domain)
+        ensures { λ _. ⌜ at (now (self .exit)) ≡ with-set (at (now (self .entry))) flag domain ⌝ }
     {
-        write(&mut self.sets, flag, set);
+        write(&mut self.sets, flag, domain);
     }
 
     // Leaves a flag no value but this one, and answers the set that it then has.
@@ -68,7 +68,7 @@ impl FlagBox {
         left
     }
 
-    // The lowest flag that has no value left.
+    // A flag that has no value left, if there is one.
     fn emptied(&self) -> Option<u8>
         ensures { λ r. ⌜ Cases r ((f : ℕ) → f < 256 → at (now (self .entry)) f ≡ Domain.Empty → ⊥) (λ f. at (now (self .entry)) f ≡ Domain.Empty) ⌝ }
     {

@@ -17,8 +17,8 @@ pub enum Verdict {
     Dead,
 }
 
-// Strikes the rows that the scheduler hands out until none waits, and stops as soon as a row dies.
-// It settles what waits: each other row has to support its values already.
+// Strikes the rows that the scheduler hands out until none waits, and stops as soon as a row dies. It never adds a value, and it narrows
+// where the box is alive and each row waits or supports its values already.
 fn settle<B: Book, S: Scheduler>(book: &B, scheduler: &mut S, b: &mut FlagBox) -> Verdict
     ensures { λ r. ⌜ Settled (workable (B·Book .rows (now (book .entry)))) (S·Scheduler .waits (now (scheduler .entry))) (at (now (b .entry))) (at (now (b .exit))) r ⌝ }
 {

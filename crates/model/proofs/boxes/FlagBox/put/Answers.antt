@@ -6,4 +6,4 @@ use Rattle.model.proofs.boxes.FlagBox.put.Needs as need
 
 pub returns : need.returns
 unfolding at
-returns c = ap of-list (c .write .ensures .0) ∙ set-with (c .args .self .now .sets) (c .args .flag) (c .args .set) (omega arith) (c .write .ensures .1)
+returns c = ap of-list (c .write .ensures .0) ∙ set-with (c .args .self .now .sets) (c .args .flag) (c .args .domain) (omega arith) (c .write .ensures .1)
