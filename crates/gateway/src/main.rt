@@ -19,13 +19,13 @@ use model::domain::DomainPartialEq;
 use model::refusal::AddRefusalError;
 use model::refusal::MakeRefusalError;
 use narrowing::Verdict;
-use narrowing::narrow;
 use schedulers::ring::Ring;
 use schedulers::ring::RingScheduler;
 use std::error::AnyError;
 use table::relation::Relation;
 use table::table::Table;
 use table::table::TableBook;
+use telling::start;
 use telling::tell;
 
 mod examples;
@@ -71,12 +71,11 @@ impl Story<'_> {
     fn tell(self, rt: &LibcRuntime) -> Result<(), AnyError> {
         let table = table_of(rt, self.rules)?;
         let mut ring = Ring::new();
-        let mut b = FlagBox::all_open();
         self.say_rules(rt)?;
-        if let Verdict::Dead = narrow(&table, &mut ring, &mut b) {
+        let Some(mut b) = start(&table, &mut ring) else {
             rt.println("The rules contradict one another: nothing fits them.")?;
             return Ok(());
-        }
+        };
         rt.println("Nothing is told yet.")?;
         self.say_open(rt, &b)?;
         for fact in self.facts {

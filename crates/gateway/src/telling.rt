@@ -1,12 +1,23 @@
 ghost use Rattle.model.specs.View.{at};
 ghost use Rattle.model.specs.Facts.{cut};
 ghost use Rattle.narrowing.specs.Narrowing.{workable, Narrowed};
-ghost use Rattle.gateway.specs.Telling.{Told};
+ghost use Rattle.gateway.specs.Telling.{Started, Told};
 use model::book::Book;
 use model::boxes::FlagBox;
 use model::scheduler::Scheduler;
 use narrowing::Verdict;
 use narrowing::narrow;
+
+// The largest box under no facts, or none where the rules contradict one another: then it is dead.
+pub fn start<B: Book, S: Scheduler>(book: &B, scheduler: &mut S) -> Option<FlagBox>
+    ensures { λ r. ⌜ Started (workable (B·Book .rows (now (book .entry)))) r ⌝ }
+{
+    let mut b = FlagBox::all_open();
+    match narrow(book, scheduler, &mut b) {
+        Verdict::Alive => Some(b),
+        Verdict::Dead => None,
+    }
+}
 
 // Cuts a flag to a value and narrows from there.
 fn narrow_cut<B: Book, S: Scheduler>(

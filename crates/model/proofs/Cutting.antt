@@ -9,12 +9,11 @@ use lib.ListN.{length}
 use Rattle.std.proofs.shelf.Lists.{getD-default}
 use Rattle.std.proofs.shelf.Tests.{cases-bool, both-ways, or-cases, or-left, or-right, and-parts, and-from, eqb-true, eq-eqb, ne-eqb, not-true, not-from-false, false≢true, true≢false, cond-true, cond-false}
 use Rattle.model.specs.Domains.{has, Has, cut-set}
-use Rattle.model.specs.Boxes.{Box, with-set, _⊆_, Alive}
+use Rattle.model.specs.Boxes.{Box, with-set, _⊆_}
 use Rattle.model.specs.Facts.{Facts, told, Within, facts-box, cut}
 use Rattle.model.specs.States.{State, value, Agrees, Lies}
 use Rattle.model.specs.Laws.{LargestFrom, LargestTold}
 use Rattle.model.specs.declared.domain.Domain.{Domain}
-use Rattle.model.specs.declared.domain.Domain.the-variants.{Empty}
 use Rattle.model.proofs.Sets.{has-set-of, has-cut, cut-has}
 use Rattle.model.proofs.Revise.{beq-true, beq-refl}
 
@@ -81,16 +80,6 @@ in-cut b c f v p q g w h = ⊎-elim
     let k : Has (c f) w = subst (λ y. Has (c y) w) s h in
     subst (λ x. Has (cond x (cut-set (b f) v) (b g)) w) (sym e) (cut-has (b f) v w (q w k) (p f w k)))
     (λ e. subst (λ x. Has (cond x (cut-set (b f) v) (b g)) w) (sym e) (p g w h))
-    (cases-bool (eqb g f))
-
--- a box cut at a flag lies in it, and is alive where it was and the flag has a value left
-pub cut-less : (b : Box) (f : ℕ) (v : Bool) → cut b f v ⊆ b
-cut-less b f v = cut-in b (cut b f v) f v (λ g w h. h) .0
-
-pub cut-alive : (b : Box) (f : ℕ) (v : Bool) → (cut-set (b f) v ≡ Empty → ⊥) → Alive b → Alive (cut b f v)
-cut-alive b f v n a g h = ⊎-elim
-    (λ e. n (sym (cond-true (eqb g f) (cut-set (b f) v) (b g) e) ∙ h))
-    (λ e. a g (sym (cond-false (eqb g f) (cut-set (b f) v) (b g) e) ∙ h))
     (cases-bool (eqb g f))
 
 told-within : (held : Facts) (f : ℕ) (v : Bool) (c : Box) → Within (told held f v) c ↔ (Within held c × ((w : Bool) → Has (c f) w → w ≡ v))

@@ -85,9 +85,6 @@ cut-has d true false e h = absurd (false≢true e)
 cut-has d false true e h = absurd (true≢false e)
 cut-has d false false e h = has-set-of (has d false) false false ∙ h
 
-pub ⊆-trans : (a b c : Box) → a ⊆ b → b ⊆ c → a ⊆ c
-⊆-trans a b c p q f v h = q f v (p f v h)
-
 -- boxes that contain each other are alike at each flag
 pub ⊆-both : (a b : Box) → a ⊆ b → b ⊆ a → (f : ℕ) → a f ≡ b f
 ⊆-both a b p q f = same-sets (a f) (b f) (p f) (q f)

@@ -2,12 +2,12 @@
 use mathlib.Core.Path.{_≡_, refl, sym, subst, _∙_}
 use mathlib.Core.Bool.{Bool}
 use mathlib.Core.List.{List}
-use mathlib.Core.Logic.{_↔_, ⊎-elim}
+use mathlib.Core.Logic.{⊎-elim}
 use Prim.Native.Nat.{ℕ}
 use Rattle.std.proofs.shelf.Tests.{cases-bool, both-ways}
 use Rattle.model.specs.Domains.{Has}
 use Rattle.model.specs.Rows.{Row, on, On}
-use Rattle.model.specs.Boxes.{Box, Supported, RowConsistent, Consistent, _⊆_, Largest, Alive}
+use Rattle.model.specs.Boxes.{Box, Supported, RowConsistent, _⊆_, Largest, Alive}
 use Rattle.model.specs.Strikes.{Struck, Emptied}
 use Rattle.model.proofs.Sets.{⊆-both}
 
@@ -56,10 +56,3 @@ module _ (r : Row) (before after : Box) (s : Struck r before after) where
 -- the largest box is the same however it was found
 pub largest-unique : (rows : List Row) (top a b : Box) → Largest rows top a → Largest rows top b → (f : ℕ) → a f ≡ b f
 largest-unique rows top a b p q = ⊆-both a b (q .greatest a (p .consistent) (p .within)) (p .greatest b (q .consistent) (q .within))
-
--- between a box and its largest consistent part, the largest consistent part is the same
-pub largest-between : (rows : List Row) (top mid b : Box) → mid ⊆ top → ((c : Box) → Consistent rows c → c ⊆ top → c ⊆ mid) → Largest rows mid b ↔ Largest rows top b
-largest-between rows top mid b down up = (
-  (λ l. record { consistent = l .consistent; within = λ f v h. down f v (l .within f v h); greatest = λ c k p. l .greatest c k (up c k p) }),
-  (λ l. record { consistent = l .consistent; within = up b (l .consistent) (l .within); greatest = λ c k p. l .greatest c k (λ f v h. down f v (p f v h)) }),
-)

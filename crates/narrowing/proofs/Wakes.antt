@@ -1,6 +1,6 @@
 -- Marks of waiting numbers, as rows are woken one after another.
 use mathlib.Core.Path.{_≡_, refl, sym, ap, ap₂, subst, _∙_}
-use mathlib.Core.Bool.{Bool, true, false, _&&_, _||_}
+use mathlib.Core.Bool.{Bool, true, false, _&&_, _||_, and-true, and-false, or-assoc}
 use mathlib.Core.List.{List}
 use mathlib.Core.Logic.{_↔_, _⊎_, inl, inr, ⊎-elim}
 use Prim.Native.Nat.{ℕ, _+_, _<_, _≤_}
@@ -20,21 +20,9 @@ ltb-more k n = ⊎-elim
     (cases-lt k n))
     (cases-eq k n)
 
-or-assoc : (x y z : Bool) → (x || (y || z)) ≡ ((x || y) || z)
-or-assoc true y z = refl
-or-assoc false y z = refl
-
 -- one number more
 pub all-more : (k n : ℕ) (w : Bool) → (eqb k n || (ltb k n || w)) ≡ (ltb k (n + 1) || w)
-all-more k n w = or-assoc (eqb k n) (ltb k n) w ∙ ap (λ x. x || w) (sym (ltb-more k n))
-
-and-true : (x : Bool) → (x && true) ≡ x
-and-true true = refl
-and-true false = refl
-
-and-false : (x : Bool) → (x && false) ≡ false
-and-false true = refl
-and-false false = refl
+all-more k n w = sym (or-assoc (eqb k n) (ltb k n) w) ∙ ap (λ x. x || w) (sym (ltb-more k n))
 
 module _ (o : ℕ → Bool) (k n : ℕ) (w : Bool) where
   other : (k ≡ n → ⊥) → ((ltb k n && o k) || w) ≡ ((ltb k (n + 1) && o k) || w)
