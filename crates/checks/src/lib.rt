@@ -1,4 +1,6 @@
 // Tests of the table, the ring and narrowing together, on examples. They are in a crate of their own since a crate with tests is proved twice.
+#![tactic(auto)]
+
 #[cfg(test)]
 mod adding;
 #[cfg(test)]

@@ -1,4 +1,6 @@
 // The clauses: a book of lists of literals, each true where at least one of its literals is.
+#![tactic(auto)]
+
 mod clause;
 pub mod clauses;
 pub mod laws;

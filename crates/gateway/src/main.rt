@@ -1,4 +1,6 @@
 // Small books of rules, told facts one after another: what each fact strikes out, and what stays open, in sentences.
+#![tactic(auto)]
+
 ghost use Rattle.std.specs.Prelude.{◌≡◌, map, IfOk, if◌then◌else◌, codes};
 ghost use Rattle.table.specs.Relations.{row_of};
 ghost use Rattle.table.specs.Tables.{rows_of};

@@ -1,5 +1,7 @@
 // Small books of rules, told facts one after another: what each fact strikes out, and what stays open, in sentences. Every story is narrowed
 // under three schedulers, which strike the rows in different orders.
+#![tactic(auto)]
+
 ghost use Rattle.std.specs.Prelude.{◌≡◌, map, IfOk, if◌then◌else◌, codes};
 ghost use Rattle.clauses.specs.Books.{clauses_of};
 ghost use Rattle.table.specs.Relations.{row_of};

@@ -1,5 +1,7 @@
 // The index of a book: at each flag the rows that have it, and at each row its flags. It is made once, so that nobody has to ask every row
 // whether it has a flag.
+#![tactic(auto)]
+
 ghost use Rattle.std.specs.Prelude.{◌≡◌, [], MatchResult, slice_index_or};
 ghost use Rattle.model.specs.declared.refusal.MakeRefusal.TheVariants.{Memory};
 ghost use Rattle.ragged.specs.Lists.{lists_of};

@@ -1,4 +1,6 @@
 // Narrowing: striking rows until every value that is left has support from every row.
+#![tactic(auto)]
+
 ghost use Rattle.std.specs.Prelude.{◌≡◌};
 ghost use Rattle.model.specs.Domains.{cut_set};
 ghost use Rattle.model.specs.Facts.{cut};

@@ -1,4 +1,6 @@
 // Two books as one.
+#![tactic(auto)]
+
 ghost use Rattle.std.specs.Prelude.{◌≡◌, ◌+◌, min, ◌++◌};
 ghost use Rattle.model.specs.Rows.{row_at};
 ghost use Rattle.joined.specs.Places.{row_in};

@@ -1,4 +1,6 @@
 // Narrowing: striking rows until every value that is left has support from every row.
+#![tactic(auto)]
+
 ghost use Rattle.model.specs.View.{at};
 ghost use Rattle.model.specs.Rows.{workable};
 ghost use Rattle.narrowing.specs.Narrowing.{Settled, Narrowed};

@@ -1,4 +1,6 @@
 // Lists of items, kept one after another in one store.
+#![tactic(auto)]
+
 mod store;
 
 pub use store::Lists;

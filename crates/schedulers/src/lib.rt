@@ -1,4 +1,6 @@
 // The schedulers: which of the waiting rows is looked at next.
+#![tactic(auto)]
+
 pub mod lanes;
 pub mod laws;
 mod marks;
