@@ -4,11 +4,11 @@ use Rattle.indexed.proofs.Steps.{dead_already}
 use Rattle.indexed.proofs.narrow.Goals as goal
 
 -- a dead box stays as it is
-pub returns-then-is-dead : goal.returns-then-is-dead
-returns-then-is-dead g c =
+pub returns-then-is_dead : goal.returns-then-is_dead
+returns-then-is_dead g c =
     let rows = g.B.Book.rows c.args.book.now in
     record {
       down = λ f v h. h;
       quiet = c.clear.ensures;
-      narrowed = λ _. dead_already (workable rows) (work_proper rows (g.met.B.Book.proper c.args.book.now)) _ (c.is-dead.ensures.dead c.if-is-dead.true);
+      narrowed = λ _. dead_already (workable rows) (work_proper rows (g.met.B.Book.proper c.args.book.now)) _ (c.is_dead.ensures.dead c.if-is_dead.true);
     }

@@ -13,4 +13,4 @@ returns-in-Unchanged g c =
 pub returns-in-Changed : goal.returns-in-Changed
 returns-in-Changed g c =
     cut_settled _ (g.met.B.Book.proper c.args.book.now) c.args.index.now (at c.args.b.now) c.args.flag c.args.value _ c.in-Changed.ensures.after _
-    (g.S.Scheduler.waits c.args.scheduler.now) c.wake-flag.ensures c.in-Changed.ensures.says.0 _ _ _ c.settle.ensures
+    (g.S.Scheduler.waits c.args.scheduler.now) c.wake_flag.ensures c.in-Changed.ensures.says.0 _ _ _ c.settle.ensures

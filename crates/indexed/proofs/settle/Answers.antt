@@ -32,21 +32,21 @@ waking-preserved g c = (
   progress_more _ c.in-Some.row (g.met.S.Scheduler.bounded c.striking.scheduler c.in-Some.row c.in-Some.ensures.0) _ _ _ Changed c.in-Changed.ensures c.in-Changed.ensures.says.0 (progress_same _ _ (at c.waking.b) (at c.striking.b) c.striking.invariant.0 c.waking.invariant.0),
   (λ s. (
     pending_changed _ _ _ c.in-Some.row (g.met.S.Scheduler.bounded c.striking.scheduler c.in-Some.row c.in-Some.ensures.0) _ _ c.in-Some.ensures.1
-        (g.met.B.Book.proper c.args.book.now) c.args.index.now s.indexed (at c.waking.seen) (λ f. (c.waking.invariant.1 s).1 f ∙ sym (c.striking.invariant.0 f)) _ c.flags-in-flags.ensures
-        _ c.in-Changed.ensures c.wake-losses.ensures (c.striking.invariant.1 (c.waking.invariant.1 s).0),
+        (g.met.B.Book.proper c.args.book.now) c.args.index.now s.indexed (at c.waking.seen) (λ f. (c.waking.invariant.1 s).1 f ∙ sym (c.striking.invariant.0 f)) _ c.flags_in-flags.ensures
+        _ c.in-Changed.ensures c.wake_losses.ensures (c.striking.invariant.1 (c.waking.invariant.1 s).0),
     seen_again _ _ _ c.in-Some.row (g.met.S.Scheduler.bounded c.striking.scheduler c.in-Some.row c.in-Some.ensures.0) _ _ c.in-Some.ensures.1
-        (g.met.B.Book.proper c.args.book.now) c.args.index.now s.indexed (at c.waking.seen) (λ f. (c.waking.invariant.1 s).1 f ∙ sym (c.striking.invariant.0 f)) _ c.flags-in-flags.ensures
-        _ c.in-Changed.ensures c.catch-up.ensures,
+        (g.met.B.Book.proper c.args.book.now) c.args.index.now s.indexed (at c.waking.seen) (λ f. (c.waking.invariant.1 s).1 f ∙ sym (c.striking.invariant.0 f)) _ c.flags_in-flags.ensures
+        _ c.in-Changed.ensures c.catch_up.ensures,
   )),
 )
 
-pub returns-in-default : goal.returns-in-default
-returns-in-default g c =
+pub returns-in_default : goal.returns-in_default
+returns-in_default g c =
     record {
       down = (progress_same _ _ (at c.waking.b) (at c.striking.b) c.striking.invariant.0 c.waking.invariant.0).down;
-      quiet = λ k. c.in-default.ensures.1 k ∙ c.in-default.ensures.0 k;
+      quiet = λ k. c.in_default.ensures.1 k ∙ c.in_default.ensures.0 k;
       narrowed = λ s.
-          narrowed_alive _ _ (at c.striking.b) _ c.in-default.ensures.0 (c.striking.invariant.1 (c.waking.invariant.1 s).0) s.alive (progress_same _ _ (at c.waking.b) (at c.striking.b) c.striking.invariant.0 c.waking.invariant.0);
+          narrowed_alive _ _ (at c.striking.b) _ c.in_default.ensures.0 (c.striking.invariant.1 (c.waking.invariant.1 s).0) s.alive (progress_same _ _ (at c.waking.b) (at c.striking.b) c.striking.invariant.0 c.waking.invariant.0);
     }
 
 pub returns-in-Dead : goal.returns-in-Dead

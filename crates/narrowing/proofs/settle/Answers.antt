@@ -30,15 +30,15 @@ waking-smaller g c =
 pub waking-preserved : goal.waking-preserved
 waking-preserved g c = (
   progress_more _ c.in-Some.row (g.met.S.Scheduler.bounded c.striking.scheduler c.in-Some.row c.in-Some.ensures.0) _ _ _ Changed c.in-Changed.ensures c.in-Changed.ensures.says.0 (progress_same _ _ (at c.waking.b) (at c.striking.b) c.striking.invariant.0 c.waking.invariant.0),
-  (λ p. pending_changed _ _ _ c.in-Some.row (g.met.S.Scheduler.bounded c.striking.scheduler c.in-Some.row c.in-Some.ensures.0) _ _ c.in-Some.ensures.1 _ c.in-Changed.ensures c.wake-neighbours.ensures (c.striking.invariant.1 (c.waking.invariant.1 p))),
+  (λ p. pending_changed _ _ _ c.in-Some.row (g.met.S.Scheduler.bounded c.striking.scheduler c.in-Some.row c.in-Some.ensures.0) _ _ c.in-Some.ensures.1 _ c.in-Changed.ensures c.wake_neighbours.ensures (c.striking.invariant.1 (c.waking.invariant.1 p))),
 )
 
-pub returns-in-default : goal.returns-in-default
-returns-in-default g c =
+pub returns-in_default : goal.returns-in_default
+returns-in_default g c =
     record {
       down = (progress_same _ _ (at c.waking.b) (at c.striking.b) c.striking.invariant.0 c.waking.invariant.0).down;
       narrowed = λ a p.
-          narrowed_alive _ _ (at c.striking.b) _ c.in-default.ensures.0 (c.striking.invariant.1 (c.waking.invariant.1 p)) a (progress_same _ _ (at c.waking.b) (at c.striking.b) c.striking.invariant.0 c.waking.invariant.0);
+          narrowed_alive _ _ (at c.striking.b) _ c.in_default.ensures.0 (c.striking.invariant.1 (c.waking.invariant.1 p)) a (progress_same _ _ (at c.waking.b) (at c.striking.b) c.striking.invariant.0 c.waking.invariant.0);
     }
 
 pub returns-in-Dead : goal.returns-in-Dead

@@ -10,12 +10,12 @@ loop-literal-init c = let s = c.args.lists.now in (refl, roomier_same s, sym (ap
 
 pub loop-literal-preserved : goal.loop-literal-preserved
 loop-literal-preserved c =
-    pushed_more c.args.clause.now c.loop-literal.literal-index c.args.lists.now c.loop-literal.lists c.loop-literal.invariant c.push.new.lists c.loop-literal-test.true c.in-ok-push.ensures
+    pushed_more c.args.clause.now c.loop-literal.literal-index c.args.lists.now c.loop-literal.lists c.loop-literal.invariant c.push.new.lists c.loop-literal-test.true c.in_ok-push.ensures
 
-pub returns-in-err-push : goal.returns-in-err-push
-returns-in-err-push c =
+pub returns-in_err-push : goal.returns-in_err-push
+returns-in_err-push c =
     let p = err_from_is_err_and c.from-residual.result c.from-residual.ensures.1 in
-    rw p.1 (push_refused c.args.clause.now c.loop-literal.literal-index c.args.lists.now c.loop-literal.lists c.loop-literal.invariant c.push.new.lists c.loop-literal-test.true _ p.0 c.in-err-push.ensures)
+    rw p.1 (push_refused c.args.clause.now c.loop-literal.literal-index c.args.lists.now c.loop-literal.lists c.loop-literal.invariant c.push.new.lists c.loop-literal-test.true _ p.0 c.in_err-push.ensures)
 
 pub returns : goal.returns
 returns c =

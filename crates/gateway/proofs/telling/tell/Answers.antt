@@ -4,8 +4,8 @@ use Rattle.gateway.proofs.telling.tell.Goals as goal
 
 pub returns-in-Dead : goal.returns-in-Dead
 returns-in-Dead g c =
-    λ held l. tells_dead (workable (g.B.Book.rows c.args.book.now)) held c.args.flag c.args.value _ _ l _ c.narrow-cut-verdict.ensures c.in-Dead.is
+    λ held l. tells_dead (workable (g.B.Book.rows c.args.book.now)) held c.args.flag c.args.value _ _ l _ c.narrow_cut-verdict.ensures c.in-Dead.is
 
-pub returns-in-default : goal.returns-in-default
-returns-in-default g c =
-    λ held l. tells_alive (workable (g.B.Book.rows c.args.book.now)) held c.args.flag c.args.value _ _ l _ c.narrow-cut-verdict.ensures c.in-default.not-Dead
+pub returns-in_default : goal.returns-in_default
+returns-in_default g c =
+    λ held l. tells_alive (workable (g.B.Book.rows c.args.book.now)) held c.args.flag c.args.value _ _ l _ c.narrow_cut-verdict.ensures c.in_default.not-Dead

@@ -9,10 +9,10 @@ pub loop-row-preserved : goal.loop-row-preserved
 loop-row-preserved g c =
     let rows = g.B.Book.rows c.args.book.now in
     let at_row = λ (k : ℕ). those (on (row_at rows k)) 256 in
-    closed_more at_row c.loop-row.row c.loop-row.lists c.gather-flags.new.lists c.close.new.self _ c.loop-row.invariant c.in-ok-gather-flags.ensures c.in-ok-close.ensures
+    closed_more at_row c.loop-row.row c.loop-row.lists c.gather_flags.new.lists c.close.new.self _ c.loop-row.invariant c.in_ok-gather_flags.ensures c.in_ok-close.ensures
 
 pub returns : goal.returns
 returns g c =
     let rows = g.B.Book.rows c.args.book.now in
-    let e : c.loop-row.row ≡ length (workable rows) = omega (arith, c.workable-count-count.ensures) in
+    let e : c.loop-row.row ≡ length (workable rows) = omega (arith, c.workable_count-count.ensures) in
     c.loop-row.invariant.0 ∙ ap (λ n. map (λ k. those (on (row_at rows k)) 256) (range_with_len 0 n)) e

@@ -7,4 +7,4 @@ loop-row-init g c = gathers_start (λ k. on (row_at (g.B.Book.rows c.args.book.n
 
 pub loop-row-preserved : goal.loop-row-preserved
 loop-row-preserved g c =
-    gathers_those (λ k. on (row_at (g.B.Book.rows c.args.book.now) k) c.args.flag) c.loop-row.row c.touches.result c.args.lists.now c.loop-row.lists c.push-if.new.lists c.touches.ensures c.loop-row.invariant c.in-ok-push-if.ensures
+    gathers_those (λ k. on (row_at (g.B.Book.rows c.args.book.now) k) c.args.flag) c.loop-row.row c.touches.result c.args.lists.now c.loop-row.lists c.push_if.new.lists c.touches.ensures c.loop-row.invariant c.in_ok-push_if.ensures

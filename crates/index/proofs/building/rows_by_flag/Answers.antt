@@ -10,8 +10,8 @@ pub loop-flag-preserved : goal.loop-flag-preserved
 loop-flag-preserved g c =
     let rows = g.B.Book.rows c.args.book.now in
     let at_flag = λ (f : ℕ). those (λ k. on (row_at rows k) f) (length (workable rows)) in
-    closed_more at_flag c.loop-flag.flag c.loop-flag.lists c.gather-rows.new.lists c.close.new.self _ c.loop-flag.invariant
-    (subst (λ n. Gathers (those (λ k. on (row_at rows k) c.loop-flag.flag) n) c.loop-flag.lists c.gather-rows.new.lists) c.workable-count-count.ensures c.in-ok-gather-rows.ensures) c.in-ok-close.ensures
+    closed_more at_flag c.loop-flag.flag c.loop-flag.lists c.gather_rows.new.lists c.close.new.self _ c.loop-flag.invariant
+    (subst (λ n. Gathers (those (λ k. on (row_at rows k) c.loop-flag.flag) n) c.loop-flag.lists c.gather_rows.new.lists) c.workable_count-count.ensures c.in_ok-gather_rows.ensures) c.in_ok-close.ensures
 
 pub returns : goal.returns
 returns g c =

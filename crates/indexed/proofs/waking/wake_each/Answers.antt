@@ -6,7 +6,7 @@ use Rattle.indexed.proofs.waking.wake_each.Goals as goal
 
 pub loop-row-preserved : goal.loop-row-preserved
 loop-row-preserved g c k =
-    c.wake-unless.ensures k ∙ ap (λ b. woken c.args.but (get_or c.args.rows.now c.loop-row.row-index 0 ∷ []) k || b) (c.loop-row.invariant k)
+    c.wake_unless.ensures k ∙ ap (λ b. woken c.args.but (get_or c.args.rows.now c.loop-row.row-index 0 ∷ []) k || b) (c.loop-row.invariant k)
     ∙ each_more c.args.but c.args.rows.now c.loop-row.row-index k (g.S.Scheduler.waits c.args.scheduler.now k) c.loop-row-test.true
 
 pub returns : goal.returns

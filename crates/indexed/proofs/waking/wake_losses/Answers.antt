@@ -7,7 +7,7 @@ use Rattle.indexed.proofs.waking.wake_losses.Goals as goal
 
 pub loop-flag-preserved : goal.loop-flag-preserved
 loop-flag-preserved g c k =
-    c.wake-if-lost.ensures k
+    c.wake_if_lost.ensures k
     ∙ ap (λ b. woken_at c.args.index.now (at c.args.before.now) (at c.args.after.now) c.args.row k (get_or c.args.flags.now c.loop-flag.flag-index 0) || b) (c.loop-flag.invariant k)
     ∙ some_more (woken_at c.args.index.now (at c.args.before.now) (at c.args.after.now) c.args.row k) c.args.flags.now c.loop-flag.flag-index (g.S.Scheduler.waits c.args.scheduler.now k) c.loop-flag-test.true
 

@@ -11,7 +11,7 @@ loop-flag-init g c k = (inr, λ h. ⊎_elim (λ s. absurd (omega (arith, s.1))) 
 pub loop-flag-preserved : goal.loop-flag-preserved
 loop-flag-preserved g c k =
     let rows = g.B.Book.rows c.args.book.now in
-    near_more (row_at rows c.args.row) (nth_row (workable rows) k) c.loop-flag.flag _ _ _ (c.loop-flag.invariant k) (c.wake-sharing.ensures k)
+    near_more (row_at rows c.args.row) (nth_row (workable rows) k) c.loop-flag.flag _ _ _ (c.loop-flag.invariant k) (c.wake_sharing.ensures k)
 
 pub returns : goal.returns
 returns g c k =

@@ -13,8 +13,8 @@ loop-row-init g c k =
 pub loop-row-preserved : goal.loop-row-preserved
 loop-row-preserved g c k =
     let rows = g.B.Book.rows c.args.book.now in
-    let low : c.loop-row.row < 1024 = omega (arith, few rows, c.workable-count-row-end.ensures, c.loop-row-test.true) in
-    c.wake-if-touching.ensures low k
+    let low : c.loop-row.row < 1024 = omega (arith, few rows, c.workable_count-row-end.ensures, c.loop-row-test.true) in
+    c.wake_if_touching.ensures low k
     ∙ (ap (λ r. (on r c.args.flag && eqb k c.loop-row.row) || g.S.Scheduler.waits c.loop-row.scheduler k) (row_work rows c.loop-row.row low)
     ∙ (ap (λ x. (on (nth_row (workable rows) c.loop-row.row) c.args.flag && eqb k c.loop-row.row) || x) (c.loop-row.invariant k)
     ∙ mark_more (λ j. on (nth_row (workable rows) j) c.args.flag) k c.loop-row.row (g.S.Scheduler.waits c.args.scheduler.now k)))
@@ -22,5 +22,5 @@ loop-row-preserved g c k =
 pub returns : goal.returns
 returns g c k =
     let rows = g.B.Book.rows c.args.book.now in
-    let l : length (workable rows) ≤ c.loop-row.row = omega (arith, c.workable-count-row-end.ensures, c.loop-row-test.false) in
+    let l : length (workable rows) ≤ c.loop-row.row = omega (arith, c.workable_count-row-end.ensures, c.loop-row-test.false) in
     c.loop-row.invariant k ∙ all_marked (workable rows) c.args.flag k c.loop-row.row _ l

@@ -3,7 +3,7 @@ use Rattle.model.specs.View.{at}
 use Rattle.choosers.specs.Choices.{highest}
 use Rattle.choosers.specs.Found.{highest_with, highest_past}
 use Rattle.choosers.proofs.ranked.Ranked.highest_open.Goals as goal
-use Rattle.choosers.proofs.ranked.Ranked.highest_open.Goals.{then-is-open, else-is-open}
+use Rattle.choosers.proofs.ranked.Ranked.highest_open.Goals.{then-is_open, else-is_open}
 
 pub loop-flag-init : goal.loop-flag-init
 unfolding highest
@@ -15,7 +15,7 @@ loop-flag-preserved c =
     let ranks = c.args.self.now.ranks in
     let flag = c.loop-flag.flag in
     let best = c.loop-flag.best in
-    elim c.if-is-open.branch [
-      | then-is-open w ↦ w.best-is ∙ highest_with b ranks flag best w.better.result c.loop-flag.invariant (sym c.is-open.ensures ∙ w.if-is-open.true) w.better.ensures
-      | else-is-open w ↦ w.best-is ∙ highest_past b ranks flag best c.loop-flag.invariant (sym c.is-open.ensures ∙ w.if-is-open.false)
+    elim c.if-is_open.branch [
+      | then-is_open w ↦ w.best-is ∙ highest_with b ranks flag best w.better.result c.loop-flag.invariant (sym c.is_open.ensures ∙ w.if-is_open.true) w.better.ensures
+      | else-is_open w ↦ w.best-is ∙ highest_past b ranks flag best c.loop-flag.invariant (sym c.is_open.ensures ∙ w.if-is_open.false)
     ]

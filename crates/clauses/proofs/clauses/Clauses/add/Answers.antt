@@ -2,11 +2,11 @@ use Rattle.std.proofs.Common.{sym}
 use Rattle.clauses.proofs.Putting.{held, added}
 use Rattle.clauses.proofs.clauses.Clauses.add.Goals as goal
 
-pub invariant-of-self : goal.invariant-of-self
-invariant-of-self c =
+pub invariant_of-self : goal.invariant_of-self
+invariant_of-self c =
     let book = c.args.self.now in
-    held book.lists c.put.new.lists c.args.clause.now c.put.result c.put.ensures c.len.result c.item-count.result c.len.ensures c.item-count.ensures (sym c.in-None.ensures) book.closed book.short book.clause_room book.literal_room book.sound
+    held book.lists c.put.new.lists c.args.clause.now c.put.result c.put.ensures c.len.result c.item_count.result c.len.ensures c.item_count.ensures (sym c.in-None.ensures) book.closed book.short book.clause_room book.literal_room book.sound
 
 pub returns-in-None : goal.returns-in-None
 returns-in-None c =
-    added c.args.self.now _ c.args.clause.now c.len.result c.item-count.result c.put.result c.len.ensures c.item-count.ensures (sym c.in-None.ensures) c.put.ensures
+    added c.args.self.now _ c.args.clause.now c.len.result c.item_count.result c.put.result c.len.ensures c.item_count.ensures (sym c.in-None.ensures) c.put.ensures

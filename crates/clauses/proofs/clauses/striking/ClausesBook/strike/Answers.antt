@@ -8,7 +8,7 @@ use Rattle.clauses.proofs.clauses.striking.ClausesBook.strike.Goals as goal
 pub returns-in-Some : goal.returns-in-Some
 returns-in-Some c =
     let (row, some, apart) = c.in-Some.ensures in
-    subst (λ r. Strikes r (at c.args.b.now) (at c.strike-clause.new.b) c.strike-clause.result) (sym row) (c.strike-clause.ensures some apart)
+    subst (λ r. Strikes r (at c.args.b.now) (at c.strike_clause.new.b) c.strike_clause.result) (sym row) (c.strike_clause.ensures some apart)
 
 pub returns-in-None : goal.returns-in-None
 returns-in-None c = let b = at c.args.b.now in subst (λ r. Strikes r b b Unchanged) (sym c.in-None.ensures) (strikes_none b)

@@ -2,11 +2,11 @@ use Rattle.schedulers.proofs.Queueing.{sound, served, sound_served, first_low, f
 use Rattle.schedulers.proofs.queue.scheduling.QueueScheduler.take.Goals as goal
 
 pub bounds-self-row : goal.bounds-self-row
-bounds-self-row c = first_low _ _ _ _ (sound c.args.self.now) c.if-self-eq0.false _ _ c.front-row.ensures c.behind-front-self.ensures
+bounds-self-row c = first_low _ _ _ _ (sound c.args.self.now) c.if-self-eq0.false _ _ c.front-row.ensures c.behind_front-self.ensures
 
-pub invariant-of-self : goal.invariant-of-self
-invariant-of-self c =
-    let s = sound_served _ _ _ _ (sound c.args.self.now) c.if-self-eq0.false _ _ c.front-row.ensures c.behind-front-self.ensures in
+pub invariant_of-self : goal.invariant_of-self
+invariant_of-self c =
+    let s = sound_served _ _ _ _ (sound c.args.self.now) c.if-self-eq0.false _ _ c.front-row.ensures c.behind_front-self.ensures in
     (s.places, (s.marks, (s.inside, (s.short, (s.members, (s.once, (s.count, tt)))))))
 
 pub returns : goal.returns
@@ -14,8 +14,8 @@ returns c =
     let q = sound c.args.self.now in
     record {
       takes = (
-        first_waits _ _ _ _ q c.if-self-eq0.false _ _ c.front-row.ensures c.behind-front-self.ensures,
-        still_waiting _ _ _ _ q c.if-self-eq0.false _ _ c.front-row.ensures c.behind-front-self.ensures,
+        first_waits _ _ _ _ q c.if-self-eq0.false _ _ c.front-row.ensures c.behind_front-self.ensures,
+        still_waiting _ _ _ _ q c.if-self-eq0.false _ _ c.front-row.ensures c.behind_front-self.ensures,
       );
-      line = served _ _ _ _ q c.if-self-eq0.false _ _ c.front-row.ensures c.behind-front-self.ensures;
+      line = served _ _ _ _ q c.if-self-eq0.false _ _ c.front-row.ensures c.behind_front-self.ensures;
     }
