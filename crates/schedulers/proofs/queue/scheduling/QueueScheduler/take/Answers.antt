@@ -7,7 +7,15 @@ bounds-self-row c = first_low _ _ _ _ (sound c.args.self.now) c.if-self-eq0.fals
 pub invariant_of-self : goal.invariant_of-self
 invariant_of-self c =
     let s = sound_served _ _ _ _ (sound c.args.self.now) c.if-self-eq0.false _ _ c.front-row.ensures c.behind_front-self.ensures in
-    (s.places, (s.marks, (s.inside, (s.short, (s.members, (s.once, (s.count, tt)))))))
+    record {
+      places = s.places;
+      marks = s.marks;
+      inside = s.inside;
+      short = s.short;
+      members = s.members;
+      once = s.once;
+      count = s.count;
+    }
 
 pub returns : goal.returns
 returns c =

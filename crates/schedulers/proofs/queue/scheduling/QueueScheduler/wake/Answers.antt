@@ -5,7 +5,15 @@ use Rattle.schedulers.proofs.queue.scheduling.QueueScheduler.wake.Goals as goal
 pub invariant_of-self : goal.invariant_of-self
 invariant_of-self c =
     let s = sound_joined _ _ _ _ (sound c.args.self.now) c.args.row _ (sym c.if-not-is_new.ensures) c.end-end.ensures in
-    (s.places, (s.marks, (s.inside, (s.short, (s.members, (s.once, (s.count, tt)))))))
+    record {
+      places = s.places;
+      marks = s.marks;
+      inside = s.inside;
+      short = s.short;
+      members = s.members;
+      once = s.once;
+      count = s.count;
+    }
 
 pub returns : goal.returns
 returns c =
