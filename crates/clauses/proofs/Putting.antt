@@ -101,27 +101,16 @@ module _ (before after : Lists (Literal ℕ)) (ls : List (Literal ℕ)) (answer 
         go (Err e) h = absurd (h parts.1 (let x = more in omega arith) (let x = one_more in omega arith))
 
     -- and the book holds no more than it may, in a store as large as before
-    pub held : total_length (lists_of before) ≤ 2048 → 512 ≤ list_room before → 2048 ≤ item_room before → all_sound (lists_of before) ≡ true → (length (lists_of after) ≤ 512) × ((total_length (lists_of after) ≤ 2048) × ((length (open_of after) ≡ 0) × ((512 ≤ list_room after) × ((2048 ≤ item_room after) × ((all_sound (lists_of after) ≡ true) × Unit {0})))))
+    pub held : total_length (lists_of before) ≤ 2048 → 512 ≤ list_room before → 2048 ≤ item_room before → all_sound (lists_of before) ≡ true → (length (lists_of after) ≤ 512) × (total_length (lists_of after) ≤ 2048) × (length (open_of after) ≡ 0) × (512 ≤ list_room after) × (2048 ≤ item_room after) × (all_sound (lists_of after) ≡ true)
     held short a b sound =
         let s = stored a b in
         let e = s.1 in (
           let x = one_more in let y = ap length e ∙ length_push (lists_of before) ls in omega arith,
-          (
-            let x = more in let y = ap total_length e ∙ total_push (lists_of before) ls in omega arith,
-            (
-              ap length s.2,
-              (
-                let x = puts.room.list_memory in omega arith,
-                (
-                  let x = puts.room.item_memory in omega arith,
-                  (
-                    subst (λ lss. all_sound lss ≡ true) (sym e) (sound_push (lists_of before) ls sound (and_from _ _ (not_from_false _ parts.0) (and_from _ _ (not_from_false _ parts.1) (not_from_false _ parts.2)))),
-                    tt,
-                  ),
-                ),
-              ),
-            ),
-          ),
+          let x = more in let y = ap total_length e ∙ total_push (lists_of before) ls in omega arith,
+          ap length s.2,
+          let x = puts.room.list_memory in omega arith,
+          let x = puts.room.item_memory in omega arith,
+          subst (λ lss. all_sound lss ≡ true) (sym e) (sound_push (lists_of before) ls sound (and_from _ _ (not_from_false _ parts.0) (and_from _ _ (not_from_false _ parts.1) (not_from_false _ parts.2)))),
         )
 
 -- adding, by the refusal that the clauses held give

@@ -14,7 +14,7 @@ loop-literal-preserved c =
 
 pub returns-in_err-push : goal.returns-in_err-push
 returns-in_err-push c =
-    let p = err_from_is_err_and c.from-residual.result c.from-residual.ensures.1 in
+    let p = err_from_is_err_and c.from_residual.result c.from_residual.ensures.1 in
     rw p.1 (push_refused c.args.clause.now c.loop-literal.literal-index c.args.lists.now c.loop-literal.lists c.loop-literal.invariant c.push.new.lists c.loop-literal-test.true _ p.0 c.in_err-push.ensures)
 
 pub returns : goal.returns
