@@ -1,7 +1,9 @@
 -- Why all orders come to the same box.
-use Rattle.std.proofs.Common.{◌≡◌, ℕ, ◌<◌, Bool, true, false, cond, not, List, sym, ap, ◌∙◌, subst, ⊎_elim, arith}
+use Rattle.std.proofs.Common.{◌≡◌, ℕ, ◌<◌, Bool, true, false, not, List, sym, ap, ◌∙◌, subst, ⊎_elim, arith, rules}
 use mathlib.Core.Path.{fun_ext}
-use Rattle.std.proofs.lemmas.Bool.{cases_eq, cases_lt, false≢true}
+use Rattle.std.proofs.lemmas.Bool.{cases_eq, cases_lt, not-false}
+use Rattle.model.specs.contracts.domain.Domain.{the_type}
+use denote.Enum.Bare.{sameb, same_true}
 use Rattle.model.specs.Rows.{Row}
 use Rattle.model.specs.Boxes as boxes
 use Rattle.model.specs.Boxes.{Box}
@@ -49,11 +51,11 @@ told_all rows before after f v x y z r q s held l a g =
       ),
     )
 
--- boxes that are the same at every flag up to the last one, looked at by a test, are the same
-pub same_all : (a b : FlagBox) (n : ℕ) (x y : Domain) (t : Bool) → ((f : ℕ) → f < n → at a f ≡ at b f) → x ≡ at a n → y ≡ at b n → cond t (x ≡ y) (x ≡ y → ⊥) → false ≡ not t → n ≡ 255 → at a ≡ at b
-same_all a b n x y true so_far p q e h l =
+-- boxes that are the same at every flag up to the last one are the same
+pub same_all : (a b : FlagBox) (n : ℕ) (x y : Domain) → ((f : ℕ) → f < n → at a f ≡ at b f) → x ≡ at a n → y ≡ at b n → false ≡ not (sameb the_type x y) → n ≡ 255 → at a ≡ at b
+same_all a b n x y so_far p q h l =
+    let e : x ≡ y = same_true the_type (search rules) x y (not-false (sameb the_type x y) (sym h)) in
     fun_ext (λ f. ⊎_elim
     (λ k. so_far f k)
     (λ k. ⊎_elim (λ i. ap (at a) i ∙ sym p ∙ e ∙ q ∙ ap (at b) (sym i)) (λ i. past_open a f (omega arith) ∙ sym (past_open b f (omega arith))) (cases_eq f n))
     (cases_lt f n))
-same_all a b n x y false so_far p q e h l = absurd (false≢true h)

@@ -6,6 +6,6 @@ use Rattle.gateway_orders.proofs.orders.same.Goals as goal
 -- the last flag is 255, and past it every flag is open
 pub returns-else-ne : goal.returns-else-ne
 returns-else-ne c = record {
-  yes = λ _. same_all c.args.a.now c.args.b.now c.loop-flag.flag _ _ _ c.loop-flag.invariant c.get.ensures c.get-in-loop-flag.ensures c.if-ne.ensures.1 c.if-ne.ensures.2 (omega arith);
+  yes = λ _. same_all c.args.a.now c.args.b.now c.loop-flag.flag _ _ c.loop-flag.invariant c.get.ensures c.get-in-loop-flag.ensures c.if-ne.ensures (omega arith);
   no = λ e. absurd (true≢false e);
 }
