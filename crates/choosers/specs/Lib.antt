@@ -1,4 +1,4 @@
 pub mod Choices
+pub mod Found
 pub mod Orders
 pub mod Standing
-pub mod Found

@@ -1,5 +1,5 @@
 -- Narrowing from one more value.
-use Rattle.std.proofs.Common.{◌≡◌, ℕ, Bool, not, ltb, ◌⊎◌, List, None, sym, ap, ◌∙◌, subst, inl, inr, ⊎_elim, arith}
+use Rattle.std.proofs.Common.{◌≡◌, ℕ, Bool, ltb, List, None, sym, ap, ◌∙◌, subst, inl, inr, ⊎_elim, arith}
 use mathlib.Core.Path.{fun_ext}
 use Rattle.std.proofs.lemmas.Bool.{cases_Bool, cases_eq, both_ways, or_left, and_from, lt-ltb}
 use Rattle.model.specs.Domains.{cut_set}

@@ -1,5 +1,5 @@
 -- What a strike does to boxes, and what is largest.
-use Rattle.std.proofs.Common.{◌≡◌, ℕ, Bool, true, false, List, sym, refl, ◌∙◌, subst, ⊎_elim}
+use Rattle.std.proofs.Common.{◌≡◌, ℕ, Bool, false, List, sym, refl, ◌∙◌, subst, ⊎_elim}
 use Rattle.std.proofs.lemmas.Bool.{cases_Bool, both_ways, false≢true}
 use Rattle.model.specs.Domains.{Has}
 use Rattle.model.specs.Rows.{Row, on, On, no_row}

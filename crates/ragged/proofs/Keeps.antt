@@ -1,5 +1,5 @@
 -- What the calls of a store of lists do to what it means.
-use Rattle.std.proofs.Common.{◌≡◌, ℕ, zero, suc, ◌+◌, ◌-◌, ◌<◌, ◌≤◌, true, cond, eqb, List, [], ◌∷◌, ◌++◌, length, get_or, drop, is_ok, Some, None, Ok, Err, vec_items, vec_len, vec_capacity, Option, Result, sym, refl, ap, ◌∙◌, subst, ap₂, arith, Bor, MatchOption}
+use Rattle.std.proofs.Common.{◌≡◌, ℕ, zero, suc, ◌-◌, ◌<◌, ◌≤◌, true, cond, eqb, List, [], ◌∷◌, ◌++◌, length, get_or, drop, is_ok, Some, None, Ok, Err, vec_items, vec_len, vec_capacity, Option, Result, sym, refl, ap, ◌∙◌, subst, ap₂, arith, Bor, MatchOption}
 use Rattle.std.proofs.lemmas.List.{drop_all, drop-append-le}
 use Rattle.std.proofs.lemmas.Slice.{between_to_end}
 use Rattle.std.proofs.lemmas.Bool.{cond-false, ne_eqb}

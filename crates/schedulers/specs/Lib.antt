@@ -1,7 +1,7 @@
 pub mod Lanes
 pub mod Lines
+pub mod Marking
 pub mod Marks
 pub mod Queues
 pub mod Rings
 pub mod Turns
-pub mod Marking

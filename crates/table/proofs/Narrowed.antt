@@ -1,5 +1,5 @@
 -- Narrowing the sets of a relation's flags strikes the row that it means.
-use Rattle.std.proofs.Common.{◌≡◌, ℕ, true, false, [], ◌∷◌, map, length, sym, refl, ap, ◌∙◌, subst, ⊎_elim}
+use Rattle.std.proofs.Common.{◌≡◌, ℕ, false, [], ◌∷◌, map, length, sym, refl, ap, ◌∙◌, subst, ⊎_elim}
 use lib.ListN.{length-map}
 use Rattle.std.proofs.lemmas.Bool.{cases_Bool, false≢true}
 use Rattle.model.specs.Domains.{Has}

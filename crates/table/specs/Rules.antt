@@ -1,5 +1,5 @@
 -- The proof system BOOL: twenty rules over the sets of a row's flags, what they lead to, and that a strike leaves exactly that.
-use Rattle.std.specs.Prelude.{◌≡◌, ℕ, Bool, true, false, ◌||◌, List, [], ◌∷◌, map, set, slice_index_or, slice_set}
+use Rattle.std.specs.Prelude.{◌≡◌, ℕ, Bool, true, false, ◌||◌, List, [], ◌∷◌, map, slice_index_or, slice_set}
 use Rattle.model.specs.Domains.{only, cut_set}
 use Rattle.model.specs.Rows.{On, Distinct}
 use Rattle.model.specs.Boxes.{Box}

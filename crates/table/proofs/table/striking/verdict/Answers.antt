@@ -1,4 +1,4 @@
-use Rattle.std.proofs.Common.{◌≡◌, sym, ap₂, ◌∙◌, Bool, true, false, rules}
+use Rattle.std.proofs.Common.{◌≡◌, sym, ap₂, ◌∙◌, true, rules}
 use Rattle.std.proofs.lemmas.Bool.{and_parts, false≢true}
 use Rattle.model.specs.contracts.domain.Domain.{the_type, the_row}
 use Rattle.model.specs.contracts.domain.DomainPartialEq.TheImpl as domains
