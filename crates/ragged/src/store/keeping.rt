@@ -99,8 +99,6 @@ fn put_last<T: Drop>(items: &mut Vec<T>, item: T) -> Result<(), AllocError>
     ensures capacity { vec_capacity items.old ≤ vec_capacity items.new }
     ensures succeeds { vec_len items.old < vec_capacity items.old → is_ok result ≡ true }
 {
-    match items.push(item) {
-        Ok(()) => Ok(()),
-        Err(_) => Err(AllocError),
-    }
+    items.push(item)?;
+    Ok(())
 }
