@@ -1,5 +1,5 @@
 // Reasons to refuse a clause.
-ghost use Rattle.std.specs.Prelude.{◌≡◌, ltb, if◌then◌else◌, Some, None, ◌==◌, nat_lt};
+ghost use Rattle.std.specs.Prelude.{◌≡◌, if◌then◌else◌, Some, None, ◌==◌, nat_lt};
 ghost use Rattle.model.specs.Refusals.{some_large, some_twice};
 ghost use Rattle.model.specs.Rows.{elem};
 ghost use Rattle.clauses.specs.Literals.{flags_of};
@@ -35,7 +35,7 @@ pub(crate) fn reason(
 
 // The literal with its flag as a byte, if that is not above 255.
 pub(crate) fn in_bytes(literal: Literal<usize>) -> Option<Literal<u8>>
-    ensures { result ≡ (if ltb 255 literal.flag then None else Some literal) }
+    ensures { result ≡ (if nat_lt 255 literal.flag then None else Some literal) }
 {
     if is_large(literal) {
         None
