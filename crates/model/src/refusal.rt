@@ -50,7 +50,7 @@ impl fmt::Display for AddRefusal {
 
 impl Error for AddRefusal {}
 
-// Why something was not made. Only constructors allocate, so only they can be refused for want of memory.
+// Why something was not made. Only constructors are refused for want of memory.
 #[derive(Clone, Copy, PartialEq, Eq, Debug)]
 pub enum MakeRefusal {
     // no memory

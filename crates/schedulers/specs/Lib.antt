@@ -1,3 +1,4 @@
+pub mod Bounds
 pub mod Lanes
 pub mod Lines
 pub mod Marking

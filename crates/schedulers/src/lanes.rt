@@ -1,7 +1,7 @@
 ghost use Rattle.std.specs.Prelude.{◌≡◌, ℕ, if◌then◌else◌, nat_lt};
 ghost use Rattle.model.specs.Waiting.{Wakes, Takes, NoneWaits};
 ghost use Rattle.schedulers.specs.Lanes.{belongs as fits, in_lane, in_lanes, LaneWakes, LaneTakes, LaneClears, InTurn};
-ghost use Rattle.std.proofs.Common.{rules};
+ghost use Rattle.schedulers.specs.Bounds.{bounded_either};
 
 use model::scheduler::Scheduler;
 
@@ -72,7 +72,7 @@ impl<A: Scheduler, B: Scheduler> Lanes<A, B> {
 impl<A: Scheduler, B: Scheduler> Scheduler for Lanes<A, B> {
     ghost waits = { in_lanes A.Scheduler.waits B.Scheduler.waits };
 
-    ghost bounded = { Prim.search rules };
+    ghost bounded = { λ lanes. bounded_either (A.Scheduler.waits lanes.first) (B.Scheduler.waits lanes.second) (A.Scheduler.bounded lanes.first) (B.Scheduler.bounded lanes.second) (λ k. nat_lt k lanes.boundary) };
 
     // The number goes to the scheduler of its lane; the other one stays as it is.
     fn wake(&mut self, row: u16) -> bool

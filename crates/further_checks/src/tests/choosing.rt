@@ -1,4 +1,4 @@
-// The two choosers, at every kind of n.
+// The two choosers, at n inside the box, at 256 and above it.
 use choosers::ranked::Ranked;
 use choosers::rising::Rising;
 use model::boxes::FlagBox;
