@@ -13,8 +13,8 @@ use Rattle.model.specs.declared.boxes.FlagBox.{FlagBox}
 use Rattle.model.specs.declared.domain.Domain.{Domain}
 use Rattle.model.proofs.Holding.{past_open}
 use Rattle.model.proofs.Stand.{box_laws}
-use Rattle.indexed.specs.declared.Verdict.{Verdict}
-use Rattle.indexed.specs.declared.Verdict.TheVariants.{Alive, Dead}
+use Rattle.narrowing.specs.declared.Verdict.{Verdict}
+use Rattle.narrowing.specs.declared.Verdict.TheVariants.{Alive, Dead}
 use Rattle.gateway_orders.specs.Orders.{ToldAll}
 use Rattle.gateway_orders.specs.Telling.{Tells, Told}
 use Rattle.gateway_orders.specs.declared.orders.Boxes.{Boxes}

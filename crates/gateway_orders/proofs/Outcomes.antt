@@ -7,9 +7,9 @@ use Rattle.model.specs.Facts.{Facts, no_facts, told, LargestUnder, cut}
 use Rattle.model.specs.View.{at}
 use Rattle.model.specs.declared.boxes.FlagBox.{FlagBox}
 use Rattle.model.proofs.Cutting.{largest_from, telling}
-use Rattle.indexed.specs.Narrowing.{Narrowed}
-use Rattle.indexed.specs.declared.Verdict.{Verdict}
-use Rattle.indexed.specs.declared.Verdict.TheVariants.{Alive, Dead}
+use Rattle.narrowing.specs.Narrowing.{Narrowed}
+use Rattle.narrowing.specs.declared.Verdict.{Verdict}
+use Rattle.narrowing.specs.declared.Verdict.TheVariants.{Alive, Dead}
 use Rattle.gateway_orders.specs.Telling.{Tells, kept}
 
 -- narrowing the open box finds the largest one under no facts

@@ -5,7 +5,7 @@ use Rattle.model.specs.Boxes as boxes
 use Rattle.model.specs.Boxes.{Box}
 use Rattle.model.specs.Facts.{Facts, no_facts, told, LargestUnder}
 use Rattle.model.specs.View.{at}
-use Rattle.indexed.specs.declared.Verdict.{Verdict}
+use Rattle.narrowing.specs.declared.Verdict.{Verdict}
 use Rattle.gateway_orders.specs.Telling.{Tells}
 use Rattle.gateway_orders.specs.declared.orders.Boxes.{Boxes}
 

@@ -6,8 +6,8 @@ use Rattle.model.specs.Boxes.{Box}
 use Rattle.model.specs.Facts.{Facts, no_facts, told, LargestUnder}
 use Rattle.model.specs.View.{at}
 use Rattle.model.specs.declared.boxes.FlagBox.{FlagBox}
-use Rattle.indexed.specs.declared.Verdict.{Verdict}
-use Rattle.indexed.specs.declared.Verdict.TheVariants.{Alive, Dead}
+use Rattle.narrowing.specs.declared.Verdict.{Verdict}
+use Rattle.narrowing.specs.declared.Verdict.TheVariants.{Alive, Dead}
 
 -- a live box that is the largest under no facts, or none where that largest box is dead
 abbrev pub Started : List Row → Option FlagBox → Type 0

@@ -14,11 +14,11 @@ use examples::{
     FLAGS_OF_GATEWAY, NO_CLAUSES, OTHER_FACTS_OF_FOUR, RULES_OF_FOUR, RULES_OF_GATEWAY,
 };
 use index::Index;
-use indexed::Verdict;
 use joined::Joined;
 use model::book::Book;
 use model::boxes::FlagBox;
 use model::domain::Domain;
+use narrowing::Verdict;
 use orders::{Boxes, Orders, orders_with, start_all, tell_all};
 use table::relation::Relation;
 use table::table::Table;

@@ -10,9 +10,9 @@ ghost use Rattle.gateway_orders.specs.Orders.{Agree, StartedAll, ToldAll};
 
 use crate::telling::{start, tell};
 use index::Index;
-use indexed::Verdict;
 use model::book::Book;
 use model::boxes::FlagBox;
+use narrowing::Verdict;
 use schedulers::lanes::Lanes;
 use schedulers::queue::Queue;
 use schedulers::ring::Ring;

@@ -5,10 +5,11 @@ ghost use Rattle.index.specs.Indexes.{Indexes};
 ghost use Rattle.gateway_orders.specs.Telling.{Started, Told, kept};
 
 use index::Index;
-use indexed::{Verdict, narrow, narrow_to};
+use indexed::{narrow, narrow_to};
 use model::book::Book;
 use model::boxes::FlagBox;
 use model::scheduler::Scheduler;
+use narrowing::Verdict;
 
 // The largest box under no facts, or none where the rules contradict one another: then it is dead.
 pub fn start<B: Book, S: Scheduler>(book: &B, index: &Index, scheduler: &mut S) -> Option<FlagBox>

@@ -15,11 +15,12 @@ use Rattle.model.proofs.Workable.{few, row_work, work_proper}
 use Rattle.index.specs.Indexes.{rows_with}
 use Rattle.index.specs.declared.Index.{Index}
 use Rattle.index.proofs.Gathered.{index_finds}
-use Rattle.indexed.specs.Narrowing.{Narrowed, Narrows, Settled, Started}
+use Rattle.narrowing.specs.Narrowing.{Narrowed}
+use Rattle.indexed.specs.Narrowing.{Narrows, Settled, Started}
 use Rattle.indexed.specs.Waking.{WokenEach, woken}
-use Rattle.indexed.specs.declared.Verdict.{Verdict}
-use Rattle.indexed.specs.declared.Verdict.TheVariants.{Alive, Dead}
-use Rattle.indexed.proofs.Steps.{dead_already}
+use Rattle.narrowing.specs.declared.Verdict.{Verdict}
+use Rattle.narrowing.specs.declared.Verdict.TheVariants.{Alive, Dead}
+use Rattle.narrowing.proofs.Steps.{dead_already}
 
 module _ (rows : List Row) (fit : AllProper rows) (index : Index) (b : Box) (f : ℕ) (v : Bool) (after : Box) (is_cut : after ≡ cut b f v) (waits : ℕ → Bool) where
   -- the value was not there any more

@@ -2,25 +2,21 @@
 use Rattle.std.proofs.Common.{◌≡◌, ℕ, ◌<◌, Bool, true, not, ◌&&◌, eqb, ltb, ◌⊎◌, List, [], ◌∷◌, length, Some, sym, refl, ap, ◌∙◌, subst, inl, inr, ⊎_elim, arith}
 use mathlib.Core.Path.{fun_ext}
 use Rattle.std.proofs.lemmas.Bool.{cases_Bool, cases_eq, both_ways, or_cases, or_left, or_right, and_from, eqb-true, eq-eqb, ne_eqb, lt-ltb, false≢true, cond-true, cond-false}
-use Rattle.model.specs.Domains.{Has}
 use Rattle.model.specs.Rows.{Row, elem, on, On, AllProper, nth_row, row_at, workable}
-use Rattle.model.specs.Boxes as boxes
-use Rattle.model.specs.Boxes.{Box, RowConsistent, Consistent, ◌⊆◌}
-use Rattle.model.specs.Strikes.{Strikes, Emptied}
-use Rattle.model.specs.Waiting.{NoneWaits}
+use Rattle.model.specs.Boxes.{Box, RowConsistent}
+use Rattle.model.specs.Strikes.{Strikes}
 use Rattle.model.specs.declared.strike.Strike.{Strike}
-use Rattle.model.specs.declared.strike.Strike.TheVariants.{Unchanged, Changed, Dead as Died}
-use Rattle.model.proofs.Revise.{largest_exists}
-use Rattle.model.proofs.Sets.{inside_empty, set_decides}
-use Rattle.model.proofs.Sizes.{size, size-<}
-use Rattle.model.proofs.Striking.{consistent_same, strike_shrinks, strike_keeps, strike_settles, strike_alive, largest_unique}
-use Rattle.model.proofs.Workable.{few, row_work, row_there, work_proper, flag_below}
+use Rattle.model.specs.declared.strike.Strike.TheVariants.{Unchanged, Changed}
+use Rattle.model.proofs.Sets.{set_decides}
+use Rattle.model.proofs.Striking.{consistent_same, strike_settles, largest_unique}
+use Rattle.model.proofs.Workable.{few, row_work, row_there}
 use Rattle.index.specs.Indexes.{rows_with, flags_in, Indexes}
 use Rattle.index.specs.declared.Index.{Index}
 use Rattle.index.proofs.Gathered.{index_finds}
-use Rattle.indexed.specs.Narrowing.{Pending, Narrowed, OrdersAgree}
+use Rattle.narrowing.specs.Narrowing.{Pending}
+use Rattle.indexed.specs.Narrowing.{OrdersAgree}
 use Rattle.indexed.specs.Waking.{differ, woken, woken_at, some_of, WokenFor, CaughtUp}
-use Rattle.indexed.specs.declared.Verdict.TheVariants.{Alive, Dead}
+use Rattle.narrowing.specs.declared.Verdict.TheVariants.{Alive, Dead}
 use Rattle.indexed.proofs.Wakes.{some_found, differ_true}
 
 -- two rows share a flag at which two boxes differ, or none
@@ -116,70 +112,6 @@ module _ (rows : List Row) (w w' : ℕ → Bool) (row : ℕ) (low : row < 1024) 
         (λ e. cond-true (elem f flags) (after f) (seen f) e)
         (λ e. cond-false (elem f flags) (after f) (seen f) e ∙ seen-is f ∙ sym (s.left.rest f (λ o. both_ways (elem f flags) e (listed_flag f o))))
         (cases_Bool (elem f flags))
-
-pub size_changed : (rows : List Row) → AllProper rows → (row : ℕ) (before after : Box) → Strikes (row_at rows row) before after Changed → size after < size before
-size_changed rows fit row before after s =
-    let x = s.says.1 in
-    size-< after before (strike_shrinks (row_at rows row) before after s.left) x.0 (flag_below rows fit row x.0 x.1) x.2
-
--- how far settling has come from a box
-pub record Progress (rows : List Row) (top b : Box) : Type 0 where
-  pub down : b ⊆ top
-  pub up : (c : Box) → Consistent rows c → c ⊆ top → c ⊆ b
-  pub alive : boxes.Alive top → boxes.Alive b
-
-pub progress_none : (rows : List Row) (top : Box) → Progress rows top top
-progress_none rows top = record { down = λ f v h. h; up = λ c k p. p; alive = λ a. a }
-
-pub progress_same : (rows : List Row) (top a b : Box) → ((f : ℕ) → b f ≡ a f) → Progress rows top a → Progress rows top b
-progress_same rows top a b e p =
-    record {
-      down = λ f v h. p.down f v (subst (λ d. Has d v) (e f) h);
-      up = λ c k q f v h. subst (λ d. Has d v) (sym (e f)) (p.up c k q f v h);
-      alive = λ t f h. p.alive t f (sym (e f) ∙ h);
-    }
-
--- every row that can wait, also one that is not there, supports the values of a consistent box
-any_row : (rows : List Row) (row : ℕ) → row < 1024 → (c : Box) → Consistent (workable rows) c → RowConsistent (row_at rows row) c
-any_row rows row low c k =
-    subst (λ r. RowConsistent r c) (sym (row_work rows row low)) (λ f o. k row (row_there (workable rows) row f o) f o)
-
--- a strike takes settling further
-module _ (rows : List Row) (row : ℕ) (low : row < 1024) (top before after : Box) where
-  pub progress_more : (answer : Strike) → Strikes (row_at rows row) before after answer → (Emptied (row_at rows row) after → ⊥) → Progress (workable rows) top before → Progress (workable rows) top after
-  progress_more answer s n p =
-      record {
-        down = λ f v h. p.down f v (strike_shrinks (row_at rows row) before after s.left f v h);
-        up = λ c k q. strike_keeps (row_at rows row) before after s.left c (any_row rows row low c k) (p.up c k q);
-        alive = λ t. strike_alive (row_at rows row) before after s.left n (p.alive t);
-      }
-
-  pub dead_down : Strikes (row_at rows row) before after Died → Progress (workable rows) top before → after ⊆ top
-  dead_down s p f v h = p.down f v (strike_shrinks (row_at rows row) before after s.left f v h)
-
-  -- where a row died, the largest box is dead
-  pub narrowed_dead : AllProper rows → Strikes (row_at rows row) before after Died → Progress (workable rows) top before → Narrowed (workable rows) top after Dead
-  narrowed_dead fit s p =
-      let x = s.says in
-      let e = largest_exists (workable rows) (work_proper rows fit) top in
-      let l = e.1 in
-      let inside : e.0 ⊆ after = strike_keeps (row_at rows row) before after s.left e.0 (any_row rows row low e.0 l.consistent) (p.up e.0 l.consistent l.within) in
-      record { largest = e.0; is_largest = l; outcome = ((x.0, inside_empty (e.0 x.0) (after x.0) (inside x.0) x.2), inside, dead_down s p) }
-
--- where none waits, the box is the largest
-pub narrowed_alive : (rows : List Row) (top b : Box) (w : ℕ → Bool) → NoneWaits w → Pending rows w b → boxes.Alive top → Progress rows top b → Narrowed rows top b Alive
-narrowed_alive rows top b w none q a p =
-    record {
-      largest = b;
-      is_largest = record { consistent = λ k l. ⊎_elim (λ h. absurd (both_ways (w k) (none k) h)) (λ x. x) (q k l); within = p.down; greatest = p.up };
-      outcome = (p.alive a, refl);
-    }
-
--- a box that is dead has a dead largest box
-pub dead_already : (rows : List Row) → AllProper rows → (b : Box) → boxes.Dead b → Narrowed rows b b Dead
-dead_already rows fit b d =
-    let e = largest_exists rows fit b in
-    record { largest = e.0; is_largest = e.1; outcome = ((d.0, inside_empty (e.0 d.0) (b d.0) (e.1.within d.0) d.1), e.1.within, λ f v h. h) }
 
 -- the largest box is one, and it is alive or dead
 pub orders_agree : OrdersAgree

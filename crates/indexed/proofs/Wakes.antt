@@ -1,27 +1,13 @@
 -- Marks of waiting numbers, as rows are woken one after another.
-use Rattle.std.proofs.Common.{◌≡◌, ℕ, ◌+◌, ◌<◌, Bool, true, false, cond, not, ◌&&◌, ◌||◌, eqb, ltb, List, [], ◌∷◌, ◌++◌, length, get_or, take, Option, sym, refl, ap, ◌∙◌, subst, ap₂, ⊎_elim, arith}
+use Rattle.std.proofs.Common.{◌≡◌, ℕ, ◌+◌, ◌<◌, Bool, true, false, cond, not, ◌&&◌, ◌||◌, eqb, ltb, List, [], ◌∷◌, ◌++◌, length, get_or, take, Option, sym, refl, ap, ◌∙◌, subst, ⊎_elim}
 use mathlib.Core.Bool.{or_assoc, or_comm, or-false}
 use Rattle.std.proofs.lemmas.List.{take_more}
-use Rattle.std.proofs.lemmas.Bool.{cases_eq, cases_lt, or_cases, or_left, or_right, eq-eqb, ne_eqb, eqb-true, lt-ltb, le-ltb, false≢true, cond-true, cond-false}
+use Rattle.std.proofs.lemmas.Bool.{cases_eq, or_cases, or_left, or_right, eq-eqb, ne_eqb, eqb-true, false≢true, cond-true, cond-false}
 use Rattle.model.specs.Rows.{elem}
 use Rattle.model.specs.Boxes.{Box, with_set}
 use Rattle.model.specs.declared.domain.Domain.{Domain}
 use Rattle.model.specs.declared.domain.Domain.TheVariants.{Empty, Zero, One, Open}
 use Rattle.indexed.specs.Waking.{left_out, woken, differ, some_of, CaughtUp}
-
-ltb_more : (k n : ℕ) → ltb k (n + 1) ≡ (eqb k n || ltb k n)
-ltb_more k n = ⊎_elim
-    (λ e. lt-ltb k (n + 1) (omega arith) ∙ sym (or_left (eqb k n) (ltb k n) (eq-eqb k n e)))
-    (λ d. ⊎_elim
-    (λ l. lt-ltb k (n + 1) (omega arith) ∙ sym (or_right (eqb k n) (ltb k n) (lt-ltb k n l)))
-    (λ l. le-ltb k (n + 1) (omega arith) ∙ sym (ap₂ (λ x y. x || y) (ne_eqb k n d) (le-ltb k n l)))
-    (cases_lt k n))
-    (cases_eq k n)
-
--- one number more
-pub all_more : (k n : ℕ) (before now after : Bool) → now ≡ (ltb k n || before) → after ≡ (eqb k n || now) → after ≡ (ltb k (n + 1) || before)
-all_more k n before now after so_far e =
-    e ∙ ap (λ x. eqb k n || x) so_far ∙ sym (or_assoc (eqb k n) (ltb k n) before) ∙ ap (λ x. x || before) (sym (ltb_more k n))
 
 elem_push : (k : ℕ) (xs : List ℕ) (x : ℕ) → elem k (xs ++ x ∷ []) ≡ (elem k (x ∷ []) || elem k xs)
 elem_push k [] x = sym (or-false (elem k (x ∷ [])))

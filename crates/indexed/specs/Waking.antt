@@ -1,16 +1,12 @@
 -- Which numbers wait after rows were woken.
-use Rattle.std.specs.Prelude.{◌≡◌, ℕ, Bool, true, false, cond, not, ◌&&◌, ◌||◌, List, [], ◌∷◌, length, Some, None, Option, ◌==◌, nat_lt}
+use Rattle.std.specs.Prelude.{◌≡◌, ℕ, Bool, true, false, cond, not, ◌&&◌, ◌||◌, List, [], ◌∷◌, Some, None, Option, ◌==◌, nat_lt}
 use Rattle.std.specs.Bool.{beq}
 use Rattle.model.specs.Domains.{has}
-use Rattle.model.specs.Rows.{Row, elem, workable}
+use Rattle.model.specs.Rows.{elem}
 use Rattle.model.specs.Boxes.{Box}
 use Rattle.model.specs.declared.domain.Domain.{Domain}
 use Rattle.index.specs.Indexes.{rows_with}
 use Rattle.index.specs.declared.Index.{Index}
-
--- those that waited, and the number of every row that can wait
-abbrev pub WokenAll : List Row → (ℕ → Bool) → (ℕ → Bool) → Type 0
-WokenAll rows before after = (k : ℕ) → after k ≡ (nat_lt k (length (workable rows)) || before k)
 
 -- whether a number is the one that is left out, if there is such a one
 abbrev pub left_out : Option ℕ → ℕ → Bool

@@ -1,9 +1,10 @@
 ghost use Rattle.std.specs.Prelude.{◌≡◌, List};
 ghost use Rattle.model.specs.Boxes.{Box as Sets};
 ghost use Rattle.model.specs.Rows.{Row};
-ghost use Rattle.indexed.specs.Narrowing.{Narrowed, OrdersAgree};
-ghost use Rattle.indexed.specs.declared.Verdict.{Verdict};
-ghost use Rattle.indexed.specs.declared.Verdict.TheVariants.{Alive};
+ghost use Rattle.narrowing.specs.Narrowing.{Narrowed};
+ghost use Rattle.indexed.specs.Narrowing.{OrdersAgree};
+ghost use Rattle.narrowing.specs.declared.Verdict.{Verdict};
+ghost use Rattle.narrowing.specs.declared.Verdict.TheVariants.{Alive};
 
 // The proof of the law stands behind this function.
 fn orders_agree() -> u8

@@ -14,17 +14,11 @@ use model::boxes::FlagBox;
 use model::domain::Domain;
 use model::scheduler::Scheduler;
 use model::strike::Strike;
+use narrowing::Verdict;
 use waking::{catch_up, wake_all, wake_flag, wake_losses};
 
 pub mod laws;
 mod waking;
-
-// What narrowing came to: every flag has a value left, or some flag has none.
-#[derive(Clone, Copy, PartialEq, Eq, Debug)]
-pub enum Verdict {
-    Alive,
-    Dead,
-}
 
 // Strikes the rows that the scheduler hands out until none waits, and stops as soon as a row dies; none waits afterwards. It never adds a
 // value, and it narrows where the index is the book's, the box is alive and each row waits or supports its values already.

@@ -2,7 +2,8 @@
 ghost use Rattle.std.specs.Prelude.{◌≡◌, ℕ, ◌||◌, [], ◌∷◌, None};
 ghost use Rattle.model.specs.View.{at};
 ghost use Rattle.index.specs.Indexes.{rows_with};
-ghost use Rattle.indexed.specs.Waking.{WokenAll, WokenEach, WokenFor, CaughtUp, left_out, differ, woken_at};
+ghost use Rattle.narrowing.specs.Waking.{WokenAll};
+ghost use Rattle.indexed.specs.Waking.{WokenEach, WokenFor, CaughtUp, left_out, differ, woken_at};
 
 use index::{Index, workable_count};
 use model::book::Book;

@@ -2,13 +2,14 @@
 use super::{clauses_of, no, table_of, yes};
 use clauses::clauses::Clauses;
 use index::Index;
-use indexed::{Verdict, narrow, narrow_to};
+use indexed::{narrow, narrow_to};
 use joined::Joined;
 use model::book::Book;
 use model::boxes::FlagBox;
 use model::domain::Domain;
 use model::scheduler::Scheduler;
 use model::strike::Strike;
+use narrowing::Verdict;
 use schedulers::lanes::Lanes;
 use schedulers::queue::Queue;
 use schedulers::ring::Ring;

@@ -1,6 +1,6 @@
 use Rattle.model.specs.Rows.{workable}
 use Rattle.model.proofs.Workable.{work_proper}
-use Rattle.indexed.proofs.Steps.{dead_already}
+use Rattle.narrowing.proofs.Steps.{dead_already}
 use Rattle.indexed.proofs.narrow.Goals as goal
 
 -- a dead box stays as it is

@@ -3,7 +3,8 @@ use Rattle.model.specs.View.{at}
 use Rattle.model.specs.declared.strike.Strike.TheVariants.{Changed}
 use Rattle.model.proofs.Counting.{waiting-<}
 use Rattle.model.proofs.Sizes.{size_same}
-use Rattle.indexed.proofs.Steps.{progress_none, progress_same, progress_more, pending_unchanged, pending_changed, seen_again, size_changed, narrowed_alive, narrowed_dead, dead_down}
+use Rattle.narrowing.proofs.Steps.{progress_none, progress_same, progress_more, size_changed, narrowed_alive, narrowed_dead, dead_down}
+use Rattle.indexed.proofs.Steps.{pending_unchanged, pending_changed, seen_again}
 use Rattle.indexed.proofs.settle.Goals as goal
 
 pub waking-init : goal.waking-init

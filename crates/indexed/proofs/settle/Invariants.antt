@@ -3,8 +3,9 @@ use Rattle.model.specs.Rows.{workable}
 use Rattle.model.specs.View.{at}
 use Rattle.model.proofs.Counting.{waiting}
 use Rattle.model.proofs.Sizes.{size}
-use Rattle.indexed.specs.Narrowing.{Pending, Started}
-use Rattle.indexed.proofs.Steps.{Progress}
+use Rattle.narrowing.specs.Narrowing.{Pending}
+use Rattle.narrowing.proofs.Steps.{Progress}
+use Rattle.indexed.specs.Narrowing.{Started}
 use Rattle.indexed.proofs.settle.Given as goal
 
 -- the box is as the outer turn found it; each row still waits or is settled

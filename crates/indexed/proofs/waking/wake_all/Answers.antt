@@ -1,7 +1,7 @@
-use Rattle.std.proofs.Common.{◌≡◌, ◌<◌, ◌||◌, ltb, length, sym, ap, ◌∙◌, arith}
+use Rattle.std.proofs.Common.{◌≡◌, ◌<◌, ◌||◌, eqb, ltb, length, sym, ap, ◌∙◌, arith}
 use Rattle.std.proofs.lemmas.Bool.{le-ltb}
 use Rattle.model.specs.Rows.{workable}
-use Rattle.indexed.proofs.Wakes.{all_more}
+use Rattle.narrowing.proofs.Wakes.{all_more}
 use Rattle.model.proofs.Workable.{few}
 use Rattle.indexed.proofs.waking.wake_all.Goals as goal
 
@@ -11,7 +11,7 @@ loop-row-init g c k = sym (ap (λ x. x || g.S.Scheduler.waits c.args.scheduler.n
 pub loop-row-preserved : goal.loop-row-preserved
 loop-row-preserved g c k =
     let low : c.loop-row.row < 1024 = omega (arith, few (g.B.Book.rows c.args.book.now), c.workable_count-row-end.ensures, c.loop-row-test.true) in
-    all_more k c.loop-row.row _ _ _ (c.loop-row.invariant k) ((c.wake.ensures.added low).1 k)
+    (c.wake.ensures.added low).1 k ∙ (ap (λ x. eqb k c.loop-row.row || x) (c.loop-row.invariant k) ∙ all_more k c.loop-row.row _)
 
 pub returns : goal.returns
 returns g c k =
