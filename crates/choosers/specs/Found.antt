@@ -1,20 +1,20 @@
 -- Why the flags that the choosers' definitions find are the first in their orders, among the flags below a number.
-use Rattle.std.specs.Prelude.{◌≡◌, ℕ, zero, suc, ◌+◌, ◌<◌, true, false, cond, ◌⊎◌, List, Some, None, Option, ◌≢◌, nat_lt, refl}
+use Rattle.std.specs.Prelude.{◌≡◌, ℕ, zero, suc, ◌<◌, true, false, cond, ◌⊎◌, List, Some, None, Option, ◌≢◌, nat_lt, refl}
 use Rattle.std.proofs.Math.Path.{sym, ap}
-use Rattle.std.proofs.Common.{subst, ◌∙◌, inl, inr, add-one, arith}
-use Rattle.std.proofs.lemmas.Bool.{cases_eq, cases_lt, cond_both, cond-true, cond-false, ltb-true, ltb-false, false≢true, true≢false}
+use Rattle.std.proofs.Common.{subst, ◌∙◌, inl, inr, arith}
+use Rattle.std.proofs.lemmas.Bool.{cases_eq, cases_lt, cond_both, ltb-true, ltb-false, false≢true, true≢false}
 use Rattle.model.specs.Boxes.{Box}
 use Rattle.model.specs.declared.domain.Domain.{Domain}
 use Rattle.model.specs.declared.domain.Domain.TheVariants.{Empty, Zero, One, Open}
 use Rattle.choosers.specs.Choices.{is_open, lowest, rank, better, highest}
 
-open_is : (d : Domain) → is_open d ≡ true → d ≡ Open
+pub open_is : (d : Domain) → is_open d ≡ true → d ≡ Open
 open_is Empty e = absurd (false≢true e)
 open_is Zero e = absurd (false≢true e)
 open_is One e = absurd (false≢true e)
 open_is Open e = refl
 
-is_not : (d : Domain) → is_open d ≡ false → d ≢ Open
+pub is_not : (d : Domain) → is_open d ≡ false → d ≢ Open
 is_not d e o = true≢false (sym (ap is_open o) ∙ e)
 
 module _ (b : Box) where
@@ -39,27 +39,6 @@ module _ (b : Box) where
   unfolding lowest
   low zero = λ g l. absurd (omega arith)
   low (suc n) = low_more n (lowest b n) (low n)
-
-  -- a flag below n that is open, and below which none is, is the lowest
-  low_is : (n f : ℕ) (r : Option ℕ) → Low n r → f < n → b f ≡ Open → NoneBelow f → Some f ≡ r
-  low_is n f None h l o p = absurd (h f l o)
-  low_is n f (Some g) (k, q, s) l o p =
-      let x : (f < g → ⊥) = λ z. s f z o in
-      let y : (g < f → ⊥) = λ z. p g z q in
-      elim (cases_eq f g) [ inl e ↦ ap Some e | inr d ↦ absurd (elim (cases_lt f g) [ inl z ↦ x z | inr z ↦ y (omega arith) ]) ]
-
-  none_open : (n : ℕ) → ((g : ℕ) → g < n → is_open (b g) ≡ false) → NoneBelow n
-  none_open n h g l = is_not (b g) (h g l)
-
-  pub lowest_is : (n f : ℕ) → f < n → is_open (b f) ≡ true → ((g : ℕ) → g < f → is_open (b g) ≡ false) → Some f ≡ lowest b n
-  lowest_is n f l o h = low_is n f (lowest b n) (low n) l (open_is (b f) o) (none_open f h)
-
-  low_none : (n : ℕ) (r : Option ℕ) → Low n r → NoneBelow n → None ≡ r
-  low_none n None h p = refl
-  low_none n (Some g) (k, q, s) p = absurd (p g k q)
-
-  pub lowest_none : (n : ℕ) → ((g : ℕ) → g < n → is_open (b g) ≡ false) → None ≡ lowest b n
-  lowest_none n h = low_none n (lowest b n) (low n) (none_open n h)
 
   module _ (ranks : List ℕ) where
     -- g has a lower rank than f, or the same rank and a higher number
@@ -106,15 +85,3 @@ module _ (b : Box) where
     high (suc n) =
         cond_both (is_open (b n)) (Some (better ranks (highest ranks b n) n)) (highest ranks b n) (High (suc n))
         (λ e. high_with n (highest ranks b n) (high n) (open_is (b n) e)) (λ e. high_past n (highest ranks b n) (high n) (is_not (b n) e))
-
-    -- the best flag after one more turn
-    pub highest_with : (n : ℕ) (r : Option ℕ) (f : ℕ) → r ≡ highest ranks b n → is_open (b n) ≡ true → f ≡ better ranks r n → Some f ≡ highest ranks b (n + 1)
-    unfolding highest
-    highest_with n r f e o i =
-        ap Some (i ∙ ap (λ (x : Option ℕ). better ranks x n) e)
-        ∙ sym (cond-true (is_open (b n)) _ _ o)
-        ∙ ap (highest ranks b) (sym (add-one n))
-
-    pub highest_past : (n : ℕ) (r : Option ℕ) → r ≡ highest ranks b n → is_open (b n) ≡ false → r ≡ highest ranks b (n + 1)
-    unfolding highest
-    highest_past n r e d = e ∙ sym (cond-false (is_open (b n)) _ _ d) ∙ ap (highest ranks b) (sym (add-one n))

@@ -1,4 +1,5 @@
 pub mod Looking
+pub mod Numbered
 pub mod Putting
 pub mod Stand
 pub mod Struck

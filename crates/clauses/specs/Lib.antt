@@ -1,7 +1,7 @@
 pub mod Books
 pub mod Literals
-pub mod Numbered
 pub mod Outlooks
+pub mod Proper
 pub mod Refusals
 pub mod Stores
 pub mod UnitRule

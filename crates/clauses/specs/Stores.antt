@@ -1,7 +1,8 @@
 -- Putting a clause into a store of literals.
-use Rattle.std.specs.Prelude.{◌≡◌, ℕ, ◌+◌, ◌<◌, ◌≤◌, false, List, [], ◌∷◌, ◌++◌, length, Result, MatchResult, nat_lt}
+use Rattle.std.specs.Prelude.{◌≡◌, ℕ, ◌+◌, ◌<◌, ◌≤◌, false, cond, List, [], ◌∷◌, ◌++◌, length, Result, MatchResult, nat_lt}
 use Rattle.model.specs.Refusals.{some_large}
 use Rattle.model.specs.declared.refusal.AddRefusal.{AddRefusal}
+use Rattle.model.specs.declared.refusal.AddRefusal.TheVariants.{Flag, Full}
 use Rattle.ragged.specs.Lists.{lists_of, open_of, list_room, item_room, item_count, Roomier}
 use Rattle.ragged.specs.declared.store.Lists.{Lists}
 use Rattle.clauses.specs.Literals.{flags_of}
@@ -14,6 +15,8 @@ pub record Pushes (l : Literal ℕ) (before after : Lists (Literal ℕ)) (answer
   pub last : MatchResult answer
       (λ _. open_of after ≡ open_of before ++ l ∷ [])
       (λ _. nat_lt 255 l.flag ≡ false → item_count before < item_room before → ⊥)
+  -- which of the two it was
+  pub why : MatchResult answer (λ _. nat_lt 255 l.flag ≡ false) (λ e. e ≡ cond (nat_lt 255 l.flag) Flag Full)
 
 -- the same for all literals of a clause
 pub record PushesAll (ls : List (Literal ℕ)) (before after : Lists (Literal ℕ)) (answer : Result (Unit {0}) AddRefusal) : Type 0 where

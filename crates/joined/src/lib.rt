@@ -4,7 +4,7 @@
 ghost use Rattle.std.specs.Prelude.{◌≡◌, ◌+◌, min, ◌++◌};
 ghost use Rattle.model.specs.Rows.{row_at};
 ghost use Rattle.joined.specs.Places.{row_in};
-ghost use Rattle.joined.specs.Joining.{all_proper};
+ghost use Rattle.joined.specs.Proper.{all_proper};
 
 use model::book::Book;
 use model::boxes::FlagBox;

@@ -1,3 +1,4 @@
+pub mod Marking
 pub mod Queueing
 pub mod Rounds
 pub mod Serving

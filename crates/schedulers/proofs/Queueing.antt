@@ -8,7 +8,8 @@ use Rattle.schedulers.specs.Marks.{marked, tally}
 use Rattle.schedulers.specs.Rings.{after}
 use Rattle.schedulers.specs.Queues.{line_of, joins, serves}
 use Rattle.schedulers.specs.declared.queue.Queue.{Queue}
-use Rattle.schedulers.specs.Marking.{marked_within, marked_set, marked_unset, tally_more, tally_fewer, tally_room}
+use Rattle.schedulers.specs.Bounds.{marked_within}
+use Rattle.schedulers.proofs.Marking.{marked_set, marked_unset, tally_more, tally_fewer, tally_room}
 
 -- a line that is not empty begins with what stands at its start
 line_first : (order : List ℕ) (start len : ℕ) → (len ≡ 0 → ⊥) → line_of order start len ≡ get_or order start 0 ∷ line_of order (after start) (len - 1)

@@ -1,6 +1,15 @@
--- Why the numbers that wait in lanes are below 1,024.
-use Rattle.std.specs.Prelude.{◌≡◌, ℕ, ◌<◌, Bool, true, false, cond}
+-- Why the numbers that a scheduler holds are below 1,024.
+use Rattle.std.specs.Prelude.{◌≡◌, ℕ, ◌<◌, Bool, true, false, cond, List, length}
+use Rattle.std.proofs.Common.{inl, inr, arith}
+use Rattle.std.proofs.lemmas.Bool.{both_ways, cases_lt}
+use Rattle.std.proofs.lemmas.List.{get_or_past}
 use Rattle.model.specs.Waiting.{Bounded}
+use Rattle.schedulers.specs.Marks.{marked}
+
+-- a marked number stands within the list
+pub marked_within : (marks : List Bool) (n k : ℕ) → length marks ≡ n → marked marks k ≡ true → k < n
+marked_within marks n k e w =
+    elim (cases_lt k n) [ inl h ↦ h | inr h ↦ absurd (both_ways (marked marks k) (get_or_past marks k false (omega arith)) w) ]
 
 -- of two bounded sets of numbers, whichever a test picks
 pub bounded_either : (first second : ℕ → Bool) → Bounded first → Bounded second → (test : ℕ → Bool) → Bounded (λ k. cond (test k) (first k) (second k))

@@ -1,7 +1,6 @@
 pub mod Bounds
 pub mod Lanes
 pub mod Lines
-pub mod Marking
 pub mod Marks
 pub mod Queues
 pub mod Rings

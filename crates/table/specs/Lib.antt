@@ -1,7 +1,7 @@
 pub mod Left
 pub mod Narrowing
+pub mod Proper
 pub mod Refusals
 pub mod Relations
-pub mod Rows
 pub mod Rules
 pub mod Tables

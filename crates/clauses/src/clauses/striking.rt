@@ -3,7 +3,7 @@ ghost use Rattle.model.specs.Refusals.{some_twice};
 ghost use Rattle.model.specs.Rows.{listed, no_row, row_at};
 ghost use Rattle.clauses.specs.Books.{rows_of};
 ghost use Rattle.clauses.specs.Literals.{flags_of, row_of};
-ghost use Rattle.clauses.specs.Numbered;
+ghost use Rattle.clauses.specs.Proper;
 
 use super::Clauses;
 use crate::clause::{strike_clause, touches_clause};
@@ -32,7 +32,7 @@ impl Clauses {
 impl Book for Clauses {
     ghost rows = { rows_of };
 
-    ghost proper = { λ c. Numbered.proper c };
+    ghost proper = { λ c. Proper.proper c };
 
     fn count(&self) -> u16 {
         self.len() as u16

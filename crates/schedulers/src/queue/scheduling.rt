@@ -4,7 +4,7 @@ ghost use Rattle.schedulers.specs.Lines.{line};
 ghost use Rattle.schedulers.specs.Marks.{marked};
 ghost use Rattle.schedulers.specs.Queues.{joins, serves};
 ghost use Rattle.schedulers.specs.Rings.{after};
-ghost use Rattle.schedulers.specs.Marking.{marked_within};
+ghost use Rattle.schedulers.specs.Bounds.{marked_within};
 
 use crate::marks::no_marks;
 use crate::queue::Queue;

@@ -2,7 +2,7 @@ ghost use Rattle.std.specs.Prelude.{◌≡◌, ℕ, ◌<◌, ◌≤◌, false, M
 ghost use Rattle.model.specs.Waiting.{Wakes, Takes, NoneWaits};
 ghost use Rattle.schedulers.specs.Marks.{marked};
 ghost use Rattle.schedulers.specs.Rings.{seek, Leads, Due, MovesOn};
-ghost use Rattle.schedulers.specs.Marking.{marked_within};
+ghost use Rattle.schedulers.specs.Bounds.{marked_within};
 
 use crate::marks::no_marks;
 use crate::ring::Ring;

@@ -4,7 +4,7 @@ ghost use Rattle.model.specs.View.{at};
 ghost use Rattle.table.specs.Narrowing.{with_sets, Tells, Narrows};
 ghost use Rattle.table.specs.Relations.{flags_of, parts, each, row_of};
 ghost use Rattle.table.specs.Tables.{rows_of};
-ghost use Rattle.table.specs.Rows;
+ghost use Rattle.table.specs.Proper;
 
 use super::{Table, TableRow};
 use crate::decide::decide;
@@ -93,7 +93,7 @@ impl Table {
 impl Book for Table {
     ghost rows = { rows_of };
 
-    ghost proper = { λ t. Rows.proper t };
+    ghost proper = { λ t. Proper.proper t };
 
     fn count(&self) -> u16 {
         self.len() as u16

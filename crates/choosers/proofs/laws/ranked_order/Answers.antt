@@ -1,4 +1,4 @@
-use Rattle.choosers.specs.Standing.{ranked_order}
+use Rattle.choosers.proofs.Ordered.{ranked_order}
 use Rattle.choosers.proofs.laws.ranked_order.Goals as goal
 
 pub returns : goal.returns

@@ -1,4 +1,4 @@
-use Rattle.choosers.specs.Standing.{rising_order}
+use Rattle.choosers.proofs.Ordered.{rising_order}
 use Rattle.choosers.proofs.laws.rising_order.Goals as goal
 
 pub returns : goal.returns

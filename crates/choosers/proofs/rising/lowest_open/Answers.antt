@@ -1,6 +1,6 @@
 use Rattle.std.proofs.Common.{◌<◌, min, sym, ◌∙◌, arith}
 use Rattle.model.specs.View.{at}
-use Rattle.choosers.specs.Found.{lowest_is, lowest_none}
+use Rattle.choosers.proofs.Finding.{lowest_is, lowest_none}
 use Rattle.choosers.proofs.rising.lowest_open.Goals as goal
 
 pub returns-then-is_open : goal.returns-then-is_open

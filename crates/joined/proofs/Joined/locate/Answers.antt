@@ -1,4 +1,4 @@
-use Rattle.joined.specs.Joining.{located}
+use Rattle.joined.proofs.Joining.{located}
 use Rattle.joined.proofs.Joined.locate.Goals as goal
 
 pub returns : goal.returns

@@ -1,4 +1,4 @@
-use Rattle.joined.specs.Joining.{count_joined}
+use Rattle.joined.proofs.Joining.{count_joined}
 use Rattle.joined.proofs.JoinedBook.count.Goals as goal
 
 pub returns : goal.returns

@@ -1,5 +1,5 @@
 use Rattle.std.proofs.Common.{refl}
-use Rattle.schedulers.specs.Marking.{none_marked, none_set}
+use Rattle.schedulers.proofs.Marking.{none_marked, none_set}
 use Rattle.schedulers.proofs.marks.no_marks.Goals as goal
 
 pub returns : goal.returns

@@ -1,7 +1,7 @@
 use Rattle.std.proofs.Common.{sym, refl, ◌∙◌}
 use Rattle.model.specs.View.{at}
 use Rattle.choosers.specs.Choices.{highest}
-use Rattle.choosers.specs.Found.{highest_with, highest_past}
+use Rattle.choosers.proofs.Finding.{highest_with, highest_past}
 use Rattle.choosers.proofs.ranked.Ranked.highest_open.Goals as goal
 use Rattle.choosers.proofs.ranked.Ranked.highest_open.Goals.{then-is_open, else-is_open}
 

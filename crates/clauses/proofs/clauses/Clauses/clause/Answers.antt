@@ -1,4 +1,4 @@
-use Rattle.clauses.specs.Numbered.{clause_got}
+use Rattle.clauses.proofs.Numbered.{clause_got}
 use Rattle.clauses.proofs.clauses.Clauses.clause.Goals as goal
 
 pub returns : goal.returns

@@ -1,5 +1,5 @@
 use Rattle.std.proofs.Common.{sym, ◌∙◌, rules}
-use Rattle.clauses.specs.Numbered.{length-listed}
+use Rattle.clauses.proofs.Numbered.{length-listed}
 use Rattle.clauses.proofs.clauses.Clauses.len.Goals as goal
 
 pub returns : goal.returns

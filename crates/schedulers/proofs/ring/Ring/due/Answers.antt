@@ -1,5 +1,5 @@
 use Rattle.schedulers.specs.Marks.{marked}
-use Rattle.schedulers.specs.Marking.{marked_within}
+use Rattle.schedulers.specs.Bounds.{marked_within}
 use Rattle.schedulers.proofs.Rounds.{due_ahead, due_round}
 use Rattle.schedulers.proofs.ring.Ring.due.Goals as goal
 

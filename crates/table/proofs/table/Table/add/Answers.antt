@@ -1,4 +1,4 @@
-use Rattle.table.specs.Rows.{refused, taken}
+use Rattle.table.proofs.Rows.{refused, taken}
 use Rattle.table.proofs.table.Table.add.Goals as goal
 
 pub returns-in-Ok : goal.returns-in-Ok

@@ -1,5 +1,5 @@
 use Rattle.std.proofs.Common.{length, sym, ap, ◌∙◌, rules}
-use Rattle.table.specs.Rows.{all_listed, length-rows}
+use Rattle.table.proofs.Rows.{all_listed, length-rows}
 use Rattle.table.proofs.table.Table.len.Goals as goal
 
 pub returns : goal.returns

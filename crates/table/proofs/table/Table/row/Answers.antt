@@ -1,6 +1,6 @@
 use Rattle.std.proofs.Common.{subst}
 use Rattle.std.specs.Slice.{IsGetResult}
-use Rattle.table.specs.Rows.{row_got}
+use Rattle.table.proofs.Rows.{row_got}
 use Rattle.table.proofs.table.Table.row.Goals as goal
 
 pub returns : goal.returns

@@ -1,9 +1,9 @@
 -- Rows by their number in two lists of rows joined.
-use Rattle.std.specs.Prelude.{◌≡◌, ℕ, ◌+◌, ◌-◌, ◌<◌, ◌≤◌, min, cond, List, ◌++◌, length, nat_lt, refl}
+use Rattle.std.specs.Prelude.{◌≡◌, ℕ, ◌+◌, ◌-◌, ◌<◌, ◌≤◌, min, cond, List, ◌++◌, length, nat_lt}
 use Rattle.std.proofs.Common.{sym, ap, ◌∙◌, inl, inr, arith}
 use Rattle.std.proofs.lemmas.List.{length-take, length-append, get_or-take, get_or_past, get_or_append_left, get_or-append_right}
 use Rattle.std.proofs.lemmas.Bool.{cases_lt, cond-true, cond-false, lt-ltb, le-ltb}
-use Rattle.model.specs.Rows.{Row, AllProper, no_row, listed, row_at}
+use Rattle.model.specs.Rows.{Row, no_row, listed, row_at}
 use Rattle.joined.specs.Places.{place, row_in}
 use Rattle.joined.specs.declared.place.Place.{Place}
 use Rattle.joined.specs.declared.place.Place.TheVariants.{First, Second, Past}
@@ -49,12 +49,3 @@ module _ (xs ys : List Row) where
 
     pub located : (p : Place) → p ≡ place row count → row_at (xs ++ ys) row ≡ row_in xs ys p
     located p q = at_place ∙ ap (row_in xs ys) (sym q)
-
-  -- where the rows of both books are proper, all are
-  pub all_proper : AllProper xs → AllProper ys → AllProper (xs ++ ys)
-  all_proper p q k h =
-      let l = length-append xs ys in
-      elim (cases_lt k (length xs)) [
-        | inl a ↦ rw (get_or_append_left xs ys no_row k a) (p k a)
-        | inr a ↦ rw (get_or-append_right xs ys (length xs) k no_row refl a) (q (k - length xs) (omega arith))
-      ]

@@ -1,8 +1,8 @@
 -- Lists of marks.
 use Rattle.std.specs.Prelude.{◌≡◌, ℕ, zero, suc, ◌+◌, ◌<◌, ◌≤◌, Bool, true, false, not, ◌&&◌, ◌||◌, List, [], ◌∷◌, length, replicate, ◌==◌, slice_set, refl}
 use Rattle.std.proofs.Common.{sym, ap, ◌∙◌, inl, inr, arith}
-use Rattle.std.proofs.lemmas.Bool.{both_ways, cases_lt, cases_eq, or_left, eq-eqb, ne_eqb, true≢false, false≢true}
-use Rattle.std.proofs.lemmas.List.{get_or_past, get_or-set_same, get_or-set_other}
+use Rattle.std.proofs.lemmas.Bool.{cases_eq, or_left, eq-eqb, ne_eqb, true≢false, false≢true}
+use Rattle.std.proofs.lemmas.List.{get_or-set_same, get_or-set_other}
 use Rattle.schedulers.specs.Marks.{marked, tally}
 
 -- where no mark was set, none is
@@ -10,11 +10,6 @@ pub none_marked : (n k : ℕ) → marked (replicate n false) k ≡ false
 none_marked zero k = refl
 none_marked (suc n) zero = refl
 none_marked (suc n) (suc k) = none_marked n k
-
--- a marked number stands within the list
-pub marked_within : (marks : List Bool) (n k : ℕ) → length marks ≡ n → marked marks k ≡ true → k < n
-marked_within marks n k e w =
-    elim (cases_lt k n) [ inl h ↦ h | inr h ↦ absurd (both_ways (marked marks k) (get_or_past marks k false (omega arith)) w) ]
 
 pub none_set : (n : ℕ) → tally (replicate n false) ≡ 0
 none_set zero = refl

@@ -1,43 +1,18 @@
--- The rows of a table: they are proper, they are found by their number, and one more comes last.
+-- The rows of a table: they are found by their number, and one more comes last.
 use Rattle.std.specs.Prelude.{◌≡◌, ℕ, zero, suc, ◌<◌, ◌≤◌, List, [], ◌∷◌, ◌++◌, map, length, Some, None, Ok, Err, vec_items, vec_len, Option, MatchOption, slice_index_or, refl}
-use Rattle.std.proofs.Common.{sym, ap, subst, ◌∙◌, le_of_suc-le-suc, not-suc-le-zero, arith, lit<}
+use Rattle.std.proofs.Common.{sym, ap, subst, ◌∙◌, le_of_suc-le-suc, not-suc-le-zero, arith}
 use Rattle.std.specs.Borrow.{Bor}
 use Rattle.std.proofs.lemmas.List.{take_all, get_or_past, map-append, length-map}
 use Rattle.std.specs.Slice.{IsGetResult}
-use Rattle.model.specs.Rows.{Row, Proper, AllProper, no_row, nth_row, listed, row_at}
+use Rattle.model.specs.Rows.{no_row, nth_row, listed, row_at}
 use Rattle.model.specs.declared.refusal.AddRefusal.{AddRefusal}
-use Rattle.model.proofs.Members.{distinct, below}
+use Rattle.table.specs.Proper.{meant}
 use Rattle.table.specs.Refusals.{refusal}
-use Rattle.table.specs.Relations.{flags_of, row_of}
+use Rattle.table.specs.Relations.{row_of}
 use Rattle.table.specs.Tables.{rows_of, Added}
 use Rattle.table.specs.declared.relation.Relation.{Relation}
-use Rattle.table.specs.declared.relation.Relation.TheVariants.{Equal, Not, And, Or}
 use Rattle.table.specs.declared.table.Table.{Table}
 use Rattle.table.specs.declared.table.TableRow.{TableRow}
-
-abbrev meant : TableRow → Row
-meant row = row_of row.relation
-
-some : (r : Relation ℕ) → 0 < length (flags_of r)
-some (Equal x y) = lit< tt
-some (Not x y) = lit< tt
-some (And x y z) = lit< tt
-some (Or x y z) = lit< tt
-
-row_proper : (row : TableRow) → Proper (meant row)
-row_proper row = record {
-  some = some row.relation;
-  different = distinct (flags_of row.relation) row.different;
-  below = below (flags_of row.relation) row.small;
-}
-
-all_proper : (rows : List TableRow) → AllProper (map meant rows)
-all_proper [] k h = absurd (not-suc-le-zero h)
-all_proper (row ∷ rows) zero h = row_proper row
-all_proper (row ∷ rows) (suc k) h = all_proper rows k (le_of_suc-le-suc h)
-
-pub proper : (t : Table) → AllProper (rows_of t)
-proper t = all_proper (vec_items t.rows)
 
 nth-map : (rows : List TableRow) (k : ℕ) (row : TableRow) → k < length rows → row ≡ slice_index_or rows k row → nth_row (map meant rows) k ≡ meant row
 nth-map [] k row h e = absurd (not-suc-le-zero h)
