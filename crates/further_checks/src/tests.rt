@@ -8,11 +8,11 @@ use std::test::Fail;
 use table::relation::Relation;
 use table::table::Table;
 
+mod by_index;
 mod choosing;
 mod clausing;
 mod joining;
 mod lining;
-mod narrowing;
 
 // A flag, and its negation.
 fn yes(flag: usize) -> Literal<usize> {
