@@ -1,5 +1,6 @@
 -- A box held as a list of sets, one for each of 256 flags.
-use Rattle.std.proofs.Common.{◌≡◌, ℕ, zero, suc, ◌<◌, ◌≤◌, Bool, true, false, cond, ltb, List, length, get_or, set, replicate, is_some, Some, None, Option, sym, refl, ◌∙◌, subst, ⊎_elim, arith, get_or-set_other, get_or-set_same, MatchOption}
+use Rattle.std.specs.List.{IsAnyAnswer}
+use Rattle.std.proofs.Common.{◌≡◌, ℕ, zero, suc, ◌<◌, ◌≤◌, Bool, true, false, cond, ltb, List, length, get_or, set, replicate, sym, refl, ◌∙◌, subst, ⊎_elim, ap, arith, get_or-set_other, get_or-set_same, MatchBool}
 use mathlib.Core.Path.{fun_ext}
 use Rattle.std.proofs.lemmas.List.{get_or_default}
 use Rattle.std.proofs.lemmas.Bool.{cases_eq, cases_lt, cond-true, cond-false, lt-ltb, le-ltb, true≢false, false≢true}
@@ -48,7 +49,21 @@ past_open b f l = cond-false (ltb f 256) (get_or b.sets f Open) Open (le-ltb f 2
 open_empty : Open ≡ Empty → ⊥
 open_empty e = false≢true (subst (λ d. has d true ≡ true) e refl)
 
+-- what a search for an empty set among 256 answers
+abbrev pub Finds : List Domain → Bool → Type 0
+Finds ds r = MatchBool r ((k : ℕ) × (k < 256) × (get_or ds k Open ≡ Empty)) ((k : ℕ) → k < 256 → get_or ds k Open ≡ Empty → ⊥)
+
+-- so a search by a test that finds the empty set alone answers that
+module _ (test : Domain → Bool) (finds : (d : Domain) → test d ≡ true → d ≡ Empty) (hits : test Empty ≡ true) where
+  pub found : (ds : List Domain) (r : Bool) → length ds ≡ 256 → IsAnyAnswer (λ d t. test d ≡ t) ds r → Finds ds r
+  found ds true l (k, m, h) = (k, omega (arith, l), finds (get_or ds k Open) (h Open))
+  found ds false l h = λ k m e. true≢false (sym hits ∙ (ap test (sym e) ∙ h k Open (omega arith) (omega (arith, l))))
+
 -- a box is dead where a flag that it holds is empty, and alive where none is
-pub dead_or_alive : (b : FlagBox) (r : Option ℕ) → MatchOption r ((f : ℕ) → f < 256 → at b f ≡ Empty → ⊥) (λ f. at b f ≡ Empty) → (is_some r ≡ true → Dead (at b)) × (is_some r ≡ false → Alive (at b))
-dead_or_alive b None h = ((λ e. absurd (false≢true e)), (λ _ f e. ⊎_elim (λ l. h f l e) (λ l. open_empty (sym (past_open b f l) ∙ e)) (cases_lt f 256)))
-dead_or_alive b (Some f) h = ((λ _. (f, h)), (λ e. absurd (true≢false e)))
+pub dead_or_alive : (b : FlagBox) (r : Bool) → Finds b.sets r → (r ≡ true → Dead (at b)) × (r ≡ false → Alive (at b))
+unfolding at
+dead_or_alive b true (k, m, h) = ((λ _. (k, list_below b.sets k m ∙ h)), (λ e. absurd (true≢false e)))
+dead_or_alive b false h = (
+  (λ e. absurd (false≢true e)),
+  (λ _ f e. ⊎_elim (λ l. h f l (sym (list_below b.sets f l) ∙ e)) (λ l. open_empty (sym (past_open b f l) ∙ e)) (cases_lt f 256)),
+)

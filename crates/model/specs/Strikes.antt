@@ -3,6 +3,7 @@ use Rattle.std.specs.Prelude.{◌≡◌, ℕ, Bool, ◌↔◌, ◌≢◌}
 use Rattle.model.specs.Domains.{Has}
 use Rattle.model.specs.Rows.{Row, On}
 use Rattle.model.specs.Boxes.{Box, Supported}
+use Rattle.model.specs.declared.domain.Domain.{Domain}
 use Rattle.model.specs.declared.domain.Domain.TheVariants.{Empty}
 use Rattle.model.specs.declared.strike.Strike.{Strike}
 use Rattle.model.specs.declared.strike.Strike.TheVariants.{Unchanged, Changed, Dead}
@@ -25,3 +26,9 @@ Says Unchanged r before after = (Emptied r after → ⊥) × ((f : ℕ) → afte
 pub record Strikes (r : Row) (before after : Box) (answer : Strike) : Type 0 where
   pub left : Struck r before after
   pub says : Says answer r before after
+
+-- what cutting a set down to a value did: nothing is left, or something, and as before or not
+abbrev pub CutSays : Strike → Domain → Domain → Type 0
+CutSays Dead before after = after ≡ Empty
+CutSays Unchanged before after = (after ≢ Empty) × (after ≡ before)
+CutSays Changed before after = (after ≢ Empty) × (after ≢ before)

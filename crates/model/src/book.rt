@@ -1,5 +1,5 @@
-ghost use Rattle.std.specs.Prelude.{◌≡◌, List, length};
-ghost use Rattle.model.specs.Rows.{Row, AllProper, listed, row_at, on};
+ghost use Rattle.std.specs.Prelude.{◌≡◌, min, List, length};
+ghost use Rattle.model.specs.Rows.{Row, AllProper, listed, row_at, workable, on};
 ghost use Rattle.model.specs.Strikes.{Strikes};
 ghost use Rattle.model.specs.View.{at};
 
@@ -24,4 +24,18 @@ pub trait Book {
         ensures { Strikes (row_at (rows self.now) row) (at b.old) (at b.new) result };
 
     ghost proper: { (s : Self) → AllProper (rows s) };
+}
+
+// The number of rows that a scheduler can hold.
+pub fn workable_count<B: Book>(book: &B) -> u16
+    ensures { result ≡ length (workable (B.Book.rows book.now)) }
+{
+    capped(book.count())
+}
+
+// A number of rows, or 1,024 when there are more.
+fn capped(count: u16) -> u16
+    ensures { result ≡ min count 1024 }
+{
+    count.min(1024)
 }

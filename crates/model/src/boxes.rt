@@ -1,18 +1,21 @@
-ghost use Rattle.std.specs.Prelude.{◌≡◌, ℕ, ◌<◌, true, false, length, set, replicate, MatchOption, ◌≢◌, slice_index_or, slice_set};
+ghost use Rattle.std.specs.Prelude.{◌≡◌, ℕ, ◌<◌, true, false, length, set, replicate, MatchBool, ◌≢◌, slice_index_or, slice_set};
 ghost use Rattle.model.specs.Boxes.{Dead, Alive, open_box, with_set};
 ghost use Rattle.model.specs.Domains.{cut_set};
 ghost use Rattle.model.specs.Facts.{cut};
+ghost use Rattle.model.specs.Strikes.{CutSays};
 ghost use Rattle.model.specs.View.{at};
 
 use crate::domain::Domain;
+use crate::fact::Fact;
+use crate::strike::Strike;
 
 // A box: a set of values for each of 256 flags. Specifications see its layout only by the view `at`, and other code only by its methods.
-#[derive(Clone, Copy)]
+#[derive(Clone, Copy, PartialEq, Eq, Debug)]
 pub struct FlagBox {
     sets: [Domain; 256],
 }
 
-// The layout: a list of 256 sets, that of flag 0 first. These three, and the proofs of what calls them, are all that knows it.
+// The layout: a list of 256 sets, that of flag 0 first. These four, and the proofs of what calls them, are all that knows it.
 fn open_sets() -> [Domain; 256]
     ensures { result ≡ replicate 256 Domain.Open }
 {
@@ -30,6 +33,12 @@ fn write(sets: &mut [Domain; 256], flag: u8, value: Domain)
 {
     let place = flag as usize;
     sets[place] = value;
+}
+
+fn some_empty(sets: &[Domain; 256]) -> bool
+    ensures { MatchBool result ((k : ℕ) × (k < 256) × (slice_index_or sets.now k Domain.Open ≡ Domain.Empty)) ((k : ℕ) → k < 256 → slice_index_or sets.now k Domain.Open ≢ Domain.Empty) }
+{
+    sets.contains(&Domain::Empty)
 }
 
 impl FlagBox {
@@ -64,16 +73,20 @@ impl FlagBox {
         left
     }
 
-    // A flag that has no value left, if there is one.
-    fn emptied(&self) -> Option<u8>
-        ensures { MatchOption result ((f : ℕ) → f < 256 → at self.now f ≢ Domain.Empty) (λ f. at self.now f ≡ Domain.Empty) }
+    // Makes a fact true: leaves its flag no value but its own, and says what that did.
+    pub fn force(&mut self, fact: Fact) -> Strike
+        ensures after { at self.new ≡ cut (at self.old) fact.flag fact.value }
+        ensures says { CutSays result (at self.old fact.flag) (cut_set (at self.old fact.flag) fact.value) }
     {
-        for flag in 0..=u8::MAX {
-            if self.get(flag) == Domain::Empty {
-                return Some(flag);
-            }
+        let before = self.get(fact.flag);
+        let after = self.cut(fact.flag, fact.value);
+        if after == Domain::Empty {
+            Strike::Dead
+        } else if after == before {
+            Strike::Unchanged
+        } else {
+            Strike::Changed
         }
-        None
     }
 
     // Whether some flag has no value left.
@@ -81,6 +94,6 @@ impl FlagBox {
         ensures dead { result ≡ true → Dead (at self.now) }
         ensures alive { result ≡ false → Alive (at self.now) }
     {
-        self.emptied().is_some()
+        some_empty(&self.sets)
     }
 }

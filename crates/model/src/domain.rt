@@ -15,10 +15,10 @@ impl Domain {
     pub fn contains(self, value: bool) -> bool
         ensures { result ≡ has self value }
     {
-        match (self, value) {
-            (Domain::Open, _) | (Domain::One, true) | (Domain::Zero, false) => true,
-            _ => false,
-        }
+        matches!(
+            (self, value),
+            (Domain::Open, _) | (Domain::One, true) | (Domain::Zero, false)
+        )
     }
 
     // The set without the other value.

@@ -4,14 +4,12 @@ ghost use Rattle.model.specs.Rows.{Row};
 ghost use Rattle.model.specs.Laws.{BoxLaws, LargestExists, LargestUnique, LargestFrom, FactsLargest, FactsFewer, LargestTold, StatesKept, AllowedKept, SinglesMeet, OrderFree, StrikeFixed, StrikePast, SupportByTuple, NumeralsCompare, NumeralsTell};
 
 // All laws at once; their proof stands behind this function.
-fn box_laws() -> u8
+fn box_laws()
     ensures { BoxLaws }
-{
-    0
-}
+{}
 
 // The laws of boxes, rows, facts and states stand, each by its name.
-pub fn box_laws_stand() -> u8
+pub fn box_laws_stand()
     ensures exists { LargestExists }
     ensures unique { LargestUnique }
     ensures fewer { (rows : List Row) (small large a b : Sets) → small ⊆ large → Largest rows small a → Largest rows large b → a ⊆ b }
@@ -29,5 +27,5 @@ pub fn box_laws_stand() -> u8
     ensures compare { NumeralsCompare }
     ensures tell { NumeralsTell }
 {
-    box_laws()
+    box_laws();
 }

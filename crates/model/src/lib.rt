@@ -6,6 +6,7 @@ pub mod book;
 pub mod boxes;
 pub mod chooser;
 pub mod domain;
+pub mod fact;
 pub mod laws;
 pub mod refusal;
 pub mod scheduler;

@@ -1,7 +1,9 @@
 // Refusals and their numbers.
 ghost use Rattle.std.specs.Prelude.{◌≡◌, ℕ};
 ghost use Rattle.model.specs.Numbers.{add_number, make_number};
+ghost use Rattle.model.specs.declared.refusal.MakeRefusal.TheVariants.{Memory};
 
+use std::alloc::AllocError;
 use std::error::Error;
 use std::fmt;
 
@@ -62,6 +64,14 @@ impl Refusal for MakeRefusal {
 
     fn number(self) -> u8 {
         self as u8
+    }
+}
+
+impl From<AllocError> for MakeRefusal {
+    ghost from_gives = { λ _ r. r ≡ Memory };
+
+    fn from(_error: AllocError) -> MakeRefusal {
+        MakeRefusal::Memory
     }
 }
 
