@@ -10,6 +10,13 @@ has Zero v = not v
 has One v = v
 has Open v = true
 
+-- whether a set has no value
+abbrev pub is_empty : Domain → Bool
+is_empty Empty = true
+is_empty Zero = false
+is_empty One = false
+is_empty Open = false
+
 abbrev pub Has : Domain → Bool → Type 0
 Has d v = has d v ≡ true
 
