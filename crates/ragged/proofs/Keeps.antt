@@ -89,20 +89,20 @@ begins_at ends (suc k) = cond-false (eqb (suc k) 0) 0 (get_or ends (suc k - 1) 0
 module _ {T : Type 0} (s : Lists T) (k : ℕ) where
   -- a list that is there lies within the store; the ends and the items may be at hand under other names
   pub list_got : (start end : ℕ) (r : Option (Bor (List T))) (ends others : List ℕ) (items : List T) → ends ≡ vec_items s.ends → others ≡ vec_items s.ends → items ≡ vec_items s.items
-      → k < length ends → (k < length others → start ≡ begins others k) → end ≡ get_or ends k 0
+      → k < length ends → start ≡ begins others k → end ≡ get_or ends k 0
       → MatchOption r (start ≤ end → end ≤ length items → ⊥) (λ p. p.now ≡ between start end items)
       → MatchOption r (length (lists_of s) ≤ k) (λ p. (k < length (lists_of s)) × (p.now ≡ get_or (lists_of s) k []))
   unfolding lists_of
   list_got start end None ends others items u v w l b e h =
       let there : k < length (vec_items s.ends) = subst (λ xs. k < length xs) u l in
-      let f : start ≡ begins (vec_items s.ends) k = subst (λ xs. start ≡ begins xs k) v (b (subst (λ xs. k < length xs) (sym v) there)) in
+      let f : start ≡ begins (vec_items s.ends) k = subst (λ xs. start ≡ begins xs k) v b in
       let q = begins_at (vec_items s.ends) k in
       let n : end ≡ get_or (vec_items s.ends) k 0 = subst (λ xs. end ≡ get_or xs k 0) u e in
       let z = part_within 0 (length (vec_items s.items)) (vec_items s.ends) k (rises s) there in
       absurd (h (omega (arith, z.0)) (subst (λ xs. end ≤ length xs) (sym w) (omega (arith, z.1))))
   list_got start end (Some p) ends others items u v w l b e h =
       let there : k < length (vec_items s.ends) = subst (λ xs. k < length xs) u l in
-      let f : start ≡ begins (vec_items s.ends) k = subst (λ xs. start ≡ begins xs k) v (b (subst (λ xs. k < length xs) (sym v) there)) in
+      let f : start ≡ begins (vec_items s.ends) k = subst (λ xs. start ≡ begins xs k) v b in
       let n : end ≡ get_or (vec_items s.ends) k 0 = subst (λ xs. end ≡ get_or xs k 0) u e in (
         (let c = length-parts 0 (vec_items s.ends) (vec_items s.items) in omega arith),
         h ∙ ap (between start end) w ∙ ap₂ (λ i j. between i j (vec_items s.items)) (f ∙ begins_at (vec_items s.ends) k) n ∙ sym (part_at 0 (vec_items s.ends) (vec_items s.items) k there),

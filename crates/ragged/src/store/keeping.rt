@@ -48,23 +48,19 @@ impl<T: Drop> Lists<T> {
     pub fn get(&self, number: usize) -> Option<&[T]>
         ensures { MatchOption result (length (lists_of self.now) ≤ number) (λ s. (number < length (lists_of self.now)) × (s.now ≡ slice_index_or (lists_of self.now) number [])) }
     {
-        match self.ends.get(number) {
-            Some(end) => part(&self.items, start_of(&self.ends, number), *end),
-            None => None,
-        }
+        let end = self.ends.get(number)?;
+        part(&self.items, start_of(&self.ends, number), *end)
     }
 }
 
-// Where a list begins that is there.
+// Where a list begins.
 fn start_of(ends: &[usize], number: usize) -> usize
-    ensures { number < length ends.now → result ≡ begins ends.now number }
+    ensures { result ≡ begins ends.now number }
 {
     if number == 0 {
         0
-    } else if number <= ends.len() {
-        ends[number - 1]
     } else {
-        0
+        ends.get(number - 1).copied().unwrap_or(0)
     }
 }
 
@@ -72,11 +68,7 @@ fn start_of(ends: &[usize], number: usize) -> usize
 fn part<T>(items: &[T], start: usize, end: usize) -> Option<&[T]>
     ensures { MatchOption result (start ≤ end → end ≤ length items.now → ⊥) (λ s. s.now ≡ between start end items.now) }
 {
-    if start <= end && end <= items.len() {
-        Some(&items[start..end])
-    } else {
-        None
-    }
+    items.get(start..end)
 }
 
 // No item, with the memory for so many.
