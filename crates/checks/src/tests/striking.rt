@@ -1,4 +1,5 @@
 // Strikes of single rows, and narrowing over a table and a ring.
+use super::{check_sets, four_flags, table_of};
 use model::book::Book;
 use model::boxes::FlagBox;
 use model::domain::Domain;
@@ -6,20 +7,10 @@ use model::scheduler::Scheduler;
 use model::strike::Strike;
 use narrowing::{Verdict, narrow};
 use schedulers::ring::Ring;
-use std::process::Abort;
 use std::test::Fail;
 use table::decide::decide;
-use table::relation::Relation;
 use table::relation::Relation::{And, Equal, Not, Or};
 use table::table::Table;
-
-fn table_of(rt: HostRuntime, relations: &[Relation<usize>]) -> Result<Table, Fail> {
-    let mut table = Table::new(rt.alloc())?;
-    for relation in relations {
-        table.add(*relation)?;
-    }
-    Ok(table)
-}
 
 // The sets of the first three flags.
 fn box_of(x: Domain, y: Domain, z: Domain) -> FlagBox {
@@ -32,7 +23,7 @@ fn box_of(x: Domain, y: Domain, z: Domain) -> FlagBox {
 
 #[test]
 fn a_dead_row_empties_all_its_flags(rt: HostRuntime) -> Result<(), Fail> {
-    let table = table_of(rt, &[And(0, 1, 2)])?;
+    let table = table_of(rt.alloc(), &[And(0, 1, 2)])?;
     let mut b = box_of(Domain::One, Domain::One, Domain::Zero);
     assert_eq!(rt; table.strike(0, &mut b), Strike::Dead);
     assert_eq!(rt; b.get(0), Domain::Empty);
@@ -44,7 +35,7 @@ fn a_dead_row_empties_all_its_flags(rt: HostRuntime) -> Result<(), Fail> {
 
 #[test]
 fn a_strike_says_what_it_did(rt: HostRuntime) -> Result<(), Fail> {
-    let table = table_of(rt, &[Or(0, 1, 2)])?;
+    let table = table_of(rt.alloc(), &[Or(0, 1, 2)])?;
     let mut b = box_of(Domain::Zero, Domain::Open, Domain::One);
     assert_eq!(rt; table.strike(0, &mut b), Strike::Changed);
     assert_eq!(rt; b.get(1), Domain::One);
@@ -54,7 +45,7 @@ fn a_strike_says_what_it_did(rt: HostRuntime) -> Result<(), Fail> {
 
 #[test]
 fn past_the_count_nothing_happens(rt: HostRuntime) -> Result<(), Fail> {
-    let table = table_of(rt, &[Equal(0, 1)])?;
+    let table = table_of(rt.alloc(), &[Equal(0, 1)])?;
     let mut b = box_of(Domain::Zero, Domain::One, Domain::Open);
     assert_eq!(rt; table.strike(1, &mut b), Strike::Unchanged);
     assert_eq!(rt; table.strike(u16::MAX, &mut b), Strike::Unchanged);
@@ -96,22 +87,9 @@ fn each_rule_concludes(rt: HostRuntime) {
     }
 }
 
-// x and y = z, x and v = z, not y = v, with flags x y z v = 0 1 2 3
-fn four_flags(rt: HostRuntime) -> Result<Table, Fail> {
-    table_of(rt, &[And(0, 1, 2), And(0, 3, 2), Not(1, 3)])
-}
-
-fn check_sets(rt: &impl Abort, b: &FlagBox, sets: [Domain; 4]) {
-    let [x, y, z, v] = sets;
-    assert_eq!(rt; b.get(0), x);
-    assert_eq!(rt; b.get(1), y);
-    assert_eq!(rt; b.get(2), z);
-    assert_eq!(rt; b.get(3), v);
-}
-
 #[test]
 fn x_0_leaves_y_open(rt: HostRuntime) -> Result<(), Fail> {
-    let table = table_of(rt, &[And(0, 1, 2)])?;
+    let table = table_of(rt.alloc(), &[And(0, 1, 2)])?;
     let mut b = FlagBox::all_open();
     b.cut(0, false);
     assert_eq!(rt; narrow(&table, &mut Ring::new(), &mut b), Verdict::Alive);
@@ -127,7 +105,7 @@ fn x_0_leaves_y_open(rt: HostRuntime) -> Result<(), Fail> {
 fn all_four_are_open(rt: HostRuntime) -> Result<(), Fail> {
     let mut b = FlagBox::all_open();
     assert_eq!(rt;
-        narrow(&four_flags(rt)?, &mut Ring::new(), &mut b),
+        narrow(&four_flags(rt.alloc())?, &mut Ring::new(), &mut b),
         Verdict::Alive
     );
     check_sets(&rt, &b, [Domain::Open; 4]);
@@ -136,7 +114,7 @@ fn all_four_are_open(rt: HostRuntime) -> Result<(), Fail> {
 
 #[test]
 fn y_1_settles_all_four(rt: HostRuntime) -> Result<(), Fail> {
-    let table = four_flags(rt)?;
+    let table = four_flags(rt.alloc())?;
     let mut b = FlagBox::all_open();
     b.cut(1, true);
     assert_eq!(rt; narrow(&table, &mut Ring::new(), &mut b), Verdict::Alive);
@@ -155,7 +133,7 @@ fn x_1_leaves_the_rest_open(rt: HostRuntime) -> Result<(), Fail> {
     let mut b = FlagBox::all_open();
     b.cut(0, true);
     assert_eq!(rt;
-        narrow(&four_flags(rt)?, &mut Ring::new(), &mut b),
+        narrow(&four_flags(rt.alloc())?, &mut Ring::new(), &mut b),
         Verdict::Alive
     );
     check_sets(
@@ -172,7 +150,7 @@ fn a_flag_that_no_row_touches_can_die(rt: HostRuntime) -> Result<(), Fail> {
     b.cut(200, true);
     b.cut(200, false);
     assert_eq!(rt;
-        narrow(&four_flags(rt)?, &mut Ring::new(), &mut b),
+        narrow(&four_flags(rt.alloc())?, &mut Ring::new(), &mut b),
         Verdict::Dead
     );
     Ok(())
@@ -206,7 +184,10 @@ fn all_1024_numbers_wait_at_the_start(rt: HostRuntime) -> Result<(), Fail> {
     }
     let mut b = FlagBox::all_open();
     b.cut(1, true);
-    assert_eq!(rt; narrow(&four_flags(rt)?, &mut ring, &mut b), Verdict::Alive);
+    assert_eq!(rt;
+        narrow(&four_flags(rt.alloc())?, &mut ring, &mut b),
+        Verdict::Alive
+    );
     check_sets(
         &rt,
         &b,

@@ -2,17 +2,23 @@
 use clauses::clauses::Clauses;
 use clauses::literal::Literal;
 use model::book::Book;
+use model::boxes::FlagBox;
+use model::domain::Domain;
 use std::alloc::Global;
 use std::process::Abort;
 use std::test::Fail;
 use table::relation::Relation;
+use table::relation::Relation::{And, Not};
 use table::table::Table;
 
+mod adding;
 mod by_index;
 mod choosing;
 mod clausing;
 mod joining;
 mod lining;
+mod ring;
+mod striking;
 
 // A flag, and its negation.
 fn yes(flag: usize) -> Literal<usize> {
@@ -43,6 +49,18 @@ fn clauses_of(heap: Global, clauses: &[&[Literal<usize>]]) -> Result<Clauses, Fa
         book.add(clause)?;
     }
     Ok(book)
+}
+
+// x and y = z, x and v = z, not y = v, with flags x y z v = 0 1 2 3
+fn four_flags(heap: Global) -> Result<Table, Fail> {
+    table_of(heap, &[And(0, 1, 2), And(0, 3, 2), Not(1, 3)])
+}
+
+// The sets of the first four flags are these.
+fn check_sets(rt: &impl Abort, b: &FlagBox, sets: [Domain; 4]) {
+    for (flag, set) in (0..=u8::MAX).zip(&sets) {
+        assert_eq!(rt; b.get(flag), *set);
+    }
 }
 
 // Whether each row has the flag, or not, as it is said.

@@ -1,5 +1,5 @@
 // Narrowing over tables and joined books, under every scheduler, and against brute force.
-use super::{clauses_of, no, table_of, yes};
+use super::{check_sets, clauses_of, four_flags, no, table_of, yes};
 use clauses::clauses::Clauses;
 use index::Index;
 use indexed::{narrow, narrow_to};
@@ -23,19 +23,6 @@ use table::table::Table;
 fn narrowed(heap: Global, table: &Table, b: &mut FlagBox) -> Result<Verdict, Fail> {
     let index = Index::new(heap, table)?;
     Ok(narrow(table, &index, &mut Ring::new(), b))
-}
-
-// x and y = z, x and v = z, not y = v, with flags x y z v = 0 1 2 3
-fn four_flags(heap: Global) -> Result<Table, Fail> {
-    table_of(heap, &[And(0, 1, 2), And(0, 3, 2), Not(1, 3)])
-}
-
-fn check_sets(rt: &impl Abort, b: &FlagBox, sets: [Domain; 4]) {
-    let [x, y, z, v] = sets;
-    assert_eq!(rt; b.get(0), x);
-    assert_eq!(rt; b.get(1), y);
-    assert_eq!(rt; b.get(2), z);
-    assert_eq!(rt; b.get(3), v);
 }
 
 #[test]
