@@ -10,3 +10,4 @@ pub mod States
 pub mod Strikes
 pub mod View
 pub mod Waiting
+pub mod Words

@@ -1,6 +1,7 @@
 // Refusals and their numbers.
-ghost use Rattle.std.specs.Prelude.{◌≡◌, ℕ};
+ghost use Rattle.std.specs.Prelude.{◌≡◌, ℕ, Some};
 ghost use Rattle.model.specs.Numbers.{add_number, make_number};
+ghost use Rattle.model.specs.Words.{add_reason, add_said, make_said};
 ghost use Rattle.model.specs.declared.refusal.MakeRefusal.TheVariants.{Memory};
 
 use std::alloc::AllocError;
@@ -37,15 +38,25 @@ impl Refusal for AddRefusal {
     }
 }
 
-impl fmt::Display for AddRefusal {
-    fn fmt<W: fmt::Write>(&self, f: &mut fmt::Formatter<W>) -> fmt::Result {
-        let number = self.number();
-        let reason = match self {
+impl AddRefusal {
+    fn reason(self) -> &'static str
+        ensures { result.now ≡ add_reason self }
+    {
+        match self {
             AddRefusal::Flag => "a flag above 255",
             AddRefusal::Twice => "a flag twice in one row",
             AddRefusal::Full => "the book is full",
             AddRefusal::NoLiteral => "a clause without a literal",
-        };
+        }
+    }
+}
+
+impl fmt::Display for AddRefusal {
+    ghost output = { λ e. Some (add_said e) };
+
+    fn fmt<W: fmt::Write>(&self, f: &mut fmt::Formatter<W>) -> fmt::Result {
+        let number = self.number();
+        let reason = self.reason();
         write!(f, "refused {number}: {reason}")
     }
 }
@@ -76,6 +87,8 @@ impl From<AllocError> for MakeRefusal {
 }
 
 impl fmt::Display for MakeRefusal {
+    ghost output = { λ e. Some (make_said e) };
+
     fn fmt<W: fmt::Write>(&self, f: &mut fmt::Formatter<W>) -> fmt::Result {
         let number = self.number();
         write!(f, "refused {number}: no memory")
