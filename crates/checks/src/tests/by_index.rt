@@ -26,7 +26,7 @@ fn narrowed(heap: Global, table: &Table, b: &mut FlagBox) -> Result<Verdict, Fai
 }
 
 #[test]
-fn x_0_leaves_y_open(rt: HostRuntime) -> Result<(), Fail> {
+fn x_0_leaves_y_open_by_index(rt: HostRuntime) -> Result<(), Fail> {
     let heap = rt.alloc();
     let table = table_of(heap, &[And(0, 1, 2)])?;
     let mut b = FlagBox::all_open();
@@ -41,7 +41,7 @@ fn x_0_leaves_y_open(rt: HostRuntime) -> Result<(), Fail> {
 }
 
 #[test]
-fn all_four_are_open(rt: HostRuntime) -> Result<(), Fail> {
+fn all_four_are_open_by_index(rt: HostRuntime) -> Result<(), Fail> {
     let heap = rt.alloc();
     let mut b = FlagBox::all_open();
     assert_eq!(rt; narrowed(heap, &four_flags(heap)?, &mut b)?, Verdict::Alive);
@@ -50,7 +50,7 @@ fn all_four_are_open(rt: HostRuntime) -> Result<(), Fail> {
 }
 
 #[test]
-fn y_1_settles_all_four(rt: HostRuntime) -> Result<(), Fail> {
+fn y_1_settles_all_four_by_index(rt: HostRuntime) -> Result<(), Fail> {
     let heap = rt.alloc();
     let table = four_flags(heap)?;
     let index = Index::new(heap, &table)?;
@@ -78,7 +78,7 @@ fn y_1_settles_all_four(rt: HostRuntime) -> Result<(), Fail> {
 }
 
 #[test]
-fn x_1_leaves_the_rest_open(rt: HostRuntime) -> Result<(), Fail> {
+fn x_1_leaves_the_rest_open_by_index(rt: HostRuntime) -> Result<(), Fail> {
     let heap = rt.alloc();
     let mut b = FlagBox::all_open();
     b.cut(0, true);
@@ -92,7 +92,7 @@ fn x_1_leaves_the_rest_open(rt: HostRuntime) -> Result<(), Fail> {
 }
 
 #[test]
-fn a_flag_that_no_row_touches_can_die(rt: HostRuntime) -> Result<(), Fail> {
+fn a_flag_that_no_row_touches_can_die_by_index(rt: HostRuntime) -> Result<(), Fail> {
     let heap = rt.alloc();
     let table = four_flags(heap)?;
     let index = Index::new(heap, &table)?;
@@ -134,7 +134,7 @@ fn a_fact_forces_a_literal(rt: HostRuntime) -> Result<(), Fail> {
 
 // Flags 0 to 255 in one chain of equalities, told at its end; numbers of rows that are not there wait from the start.
 #[test]
-fn a_fact_goes_along_a_chain(rt: HostRuntime) -> Result<(), Fail> {
+fn a_fact_goes_along_a_chain_by_index(rt: HostRuntime) -> Result<(), Fail> {
     let heap = rt.alloc();
     let mut table = Table::new(heap)?;
     for flag in 0..255usize {
@@ -158,7 +158,7 @@ fn a_fact_goes_along_a_chain(rt: HostRuntime) -> Result<(), Fail> {
 
 // Narrowing takes what waits already, also numbers of rows that are not there.
 #[test]
-fn all_1024_numbers_wait_at_the_start(rt: HostRuntime) -> Result<(), Fail> {
+fn all_1024_numbers_wait_at_the_start_by_index(rt: HostRuntime) -> Result<(), Fail> {
     let heap = rt.alloc();
     let table = four_flags(heap)?;
     let index = Index::new(heap, &table)?;
