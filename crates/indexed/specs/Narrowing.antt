@@ -26,6 +26,11 @@ pub record Settled (rows : List Row) (index : Index) (b : Box) : Type 0 where
   pub consistent : Consistent (workable rows) b
   pub alive : boxes.Alive b
 
+-- a box at rest: it is alive, and each row that can wait supports its values
+pub record AtRest (rows : List Row) (b : Box) : Type 0 where
+  pub alive : boxes.Alive b
+  pub consistent : Consistent (workable rows) b
+
 -- striking the rows that wait: the index is the book's, the box is alive, and each row waits or supports its values
 pub record Started (rows : List Row) (index : Index) (waits : ℕ → Bool) (b : Box) : Type 0 where
   pub indexed : Indexes rows index

@@ -15,8 +15,11 @@ use model::strike::Strike;
 use narrowing::{Verdict, wake_all};
 use waking::{catch_up, wake_flag, wake_losses};
 
+mod book;
 pub mod laws;
 mod waking;
+
+pub use book::Indexed;
 
 // Strikes the rows that the scheduler hands out until none waits, and stops as soon as a row dies; none waits afterwards. It never adds a
 // value, and it narrows where the index is the book's, the box is alive and each row waits or supports its values already.
