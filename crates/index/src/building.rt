@@ -1,4 +1,4 @@
-ghost use Rattle.std.specs.Prelude.{◌≡◌, min, [], ◌∷◌, map, length, IfOk, if◌then◌else◌, OnOk};
+ghost use Rattle.std.specs.Prelude.{◌≡◌, [], ◌∷◌, map, length, IfOk, if◌then◌else◌, OnOk};
 ghost use Rattle.std.specs.List.{range_with_len};
 ghost use Rattle.ragged.specs.Lists.{lists_of};
 ghost use Rattle.model.specs.Rows.{on, row_at, workable};
@@ -6,23 +6,9 @@ ghost use Rattle.index.specs.Indexes.{those, Indexes};
 ghost use Rattle.index.specs.Gathering.{Gathers};
 
 use crate::Index;
-use model::book::Book;
+use model::book::{Book, workable_count};
 use ragged::Lists;
 use std::alloc::{AllocError, Global};
-
-// The number of rows that a scheduler can hold.
-pub fn workable_count<B: Book>(book: &B) -> u16
-    ensures { result ≡ length (workable (B.Book.rows book.now)) }
-{
-    capped(book.count())
-}
-
-// A number of rows, or 1,024 when there are more.
-fn capped(count: u16) -> u16
-    ensures { result ≡ min count 1024 }
-{
-    count.min(1024)
-}
 
 // Puts an item into the open list, if it is wanted there.
 fn push_if<T: Drop>(lists: &mut Lists<T>, item: T, wanted: bool) -> Result<(), AllocError>

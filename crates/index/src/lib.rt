@@ -16,7 +16,7 @@ use std::alloc::Global;
 mod building;
 pub mod laws;
 
-pub use building::workable_count;
+pub use model::book::workable_count;
 
 #[derive(Drop)]
 pub struct Index {
@@ -31,10 +31,7 @@ impl Index {
     pub fn new<B: Book>(heap: Global, book: &B) -> Result<Index, MakeRefusal>
         ensures { MatchResult result (λ i. Indexes (B.Book.rows book.now) i) (λ e. e ≡ Memory) }
     {
-        match both_ways(heap, book) {
-            Ok(index) => Ok(index),
-            Err(_) => Err(MakeRefusal::Memory),
-        }
+        Ok(both_ways(heap, book)?)
     }
 
     // The rows that are listed at a flag.
@@ -56,8 +53,5 @@ impl Index {
 fn list_at<T: Drop>(lists: &Lists<T>, key: usize) -> &[T]
     ensures { result.now ≡ slice_index_or (lists_of lists.now) key [] }
 {
-    match lists.get(key) {
-        Some(list) => list,
-        None => &[],
-    }
+    lists.get(key).unwrap_or(&[])
 }

@@ -1,13 +1,9 @@
 -- What narrowing by the index means, over what narrowing means.
-use Rattle.std.specs.Prelude.{◌≡◌, ℕ, Bool, List, ◌≢◌}
+use Rattle.std.specs.Prelude.{◌≡◌, ℕ, Bool, List}
 use Rattle.model.specs.Rows.{Row, workable}
 use Rattle.model.specs.Boxes as boxes
 use Rattle.model.specs.Boxes.{Box, RowConsistent, Consistent, ◌⊆◌, Largest}
 use Rattle.model.specs.Waiting.{NoneWaits}
-use Rattle.model.specs.declared.domain.Domain.{Domain}
-use Rattle.model.specs.declared.domain.Domain.TheVariants.{Empty}
-use Rattle.model.specs.declared.strike.Strike.{Strike}
-use Rattle.model.specs.declared.strike.Strike.TheVariants as strike
 use Rattle.index.specs.Indexes.{Indexes}
 use Rattle.index.specs.declared.Index.{Index}
 use Rattle.narrowing.specs.Narrowing.{Narrowed, Pending}
@@ -30,11 +26,10 @@ pub record Settled (rows : List Row) (index : Index) (b : Box) : Type 0 where
   pub consistent : Consistent (workable rows) b
   pub alive : boxes.Alive b
 
--- what cutting a set down to a value did: nothing is left, or something, and as before or not
-abbrev pub CutSays : Strike → Domain → Domain → Type 0
-CutSays strike.Dead before after = after ≡ Empty
-CutSays strike.Unchanged before after = (after ≢ Empty) × (after ≡ before)
-CutSays strike.Changed before after = (after ≢ Empty) × (after ≢ before)
+-- a box at rest: it is alive, and each row that can wait supports its values
+pub record AtRest (rows : List Row) (b : Box) : Type 0 where
+  pub alive : boxes.Alive b
+  pub consistent : Consistent (workable rows) b
 
 -- striking the rows that wait: the index is the book's, the box is alive, and each row waits or supports its values
 pub record Started (rows : List Row) (index : Index) (waits : ℕ → Bool) (b : Box) : Type 0 where

@@ -1,24 +1,25 @@
 // Narrowing: striking rows until every value that is left has support from every row.
 #![tactic(auto)]
 
-ghost use Rattle.std.specs.Prelude.{◌≡◌};
-ghost use Rattle.model.specs.Domains.{cut_set};
 ghost use Rattle.model.specs.Facts.{cut};
 ghost use Rattle.model.specs.View.{at};
 ghost use Rattle.index.specs.Indexes.{Indexes};
-ghost use Rattle.indexed.specs.Narrowing.{CutSays, Narrows, Settled, Started};
+ghost use Rattle.indexed.specs.Narrowing.{Narrows, Settled, Started};
 
 use index::Index;
 use model::book::Book;
 use model::boxes::FlagBox;
-use model::domain::Domain;
+use model::fact::Fact;
 use model::scheduler::Scheduler;
 use model::strike::Strike;
-use narrowing::Verdict;
-use waking::{catch_up, wake_all, wake_flag, wake_losses};
+use narrowing::{Verdict, wake_all};
+use waking::{catch_up, wake_flag, wake_losses};
 
+mod book;
 pub mod laws;
 mod waking;
+
+pub use book::Indexed;
 
 // Strikes the rows that the scheduler hands out until none waits, and stops as soon as a row dies; none waits afterwards. It never adds a
 // value, and it narrows where the index is the book's, the box is alive and each row waits or supports its values already.
@@ -52,22 +53,6 @@ fn settle<B: Book, S: Scheduler>(
     }
 }
 
-// Leaves a flag no value but this one, and says what that did.
-fn cut_flag(b: &mut FlagBox, flag: u8, value: bool) -> Strike
-    ensures after { at b.new ≡ cut (at b.old) flag value }
-    ensures says { CutSays result (at b.old flag) (cut_set (at b.old flag) value) }
-{
-    let before = b.get(flag);
-    let after = b.cut(flag, value);
-    if after == Domain::Empty {
-        Strike::Dead
-    } else if after == before {
-        Strike::Unchanged
-    } else {
-        Strike::Changed
-    }
-}
-
 // Leaves the box the largest consistent one inside it, or says that this is dead; the box then lies between the two. That holds with the
 // book's index, for every scheduler and whatever already waited in it; none waits afterwards. A scheduler holds numbers below 1,024, so of a
 // longer book only its first 1,024 rows count.
@@ -87,19 +72,18 @@ pub fn narrow<B: Book, S: Scheduler>(
     settle(book, index, scheduler, b)
 }
 
-// Leaves a flag no value but this one, and narrows from there. In a box that was alive and consistent only the rows that have the flag can
-// have lost support, so only they are woken at the start.
+// Makes a fact true, and narrows from there. In a box that was alive and consistent only the rows that have the fact's flag
+// can have lost support, so only they are woken at the start.
 pub fn narrow_to<B: Book, S: Scheduler>(
     book: &B,
     index: &Index,
     scheduler: &mut S,
     b: &mut FlagBox,
-    flag: u8,
-    value: bool,
+    fact: Fact,
 ) -> Verdict
-    ensures { Narrows (Settled (B.Book.rows book.now) index.now (at b.old)) (B.Book.rows book.now) (S.Scheduler.waits scheduler.new) (cut (at b.old) flag value) (at b.new) result }
+    ensures { Narrows (Settled (B.Book.rows book.now) index.now (at b.old)) (B.Book.rows book.now) (S.Scheduler.waits scheduler.new) (cut (at b.old) fact.flag fact.value) (at b.new) result }
 {
-    match cut_flag(b, flag, value) {
+    match b.force(fact) {
         Strike::Dead => {
             scheduler.clear();
             Verdict::Dead
@@ -109,7 +93,7 @@ pub fn narrow_to<B: Book, S: Scheduler>(
             Verdict::Alive
         }
         Strike::Changed => {
-            wake_flag(index, scheduler, flag);
+            wake_flag(index, scheduler, fact.flag);
             settle(book, index, scheduler, b)
         }
     }

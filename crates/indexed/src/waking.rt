@@ -2,32 +2,18 @@
 ghost use Rattle.std.specs.Prelude.{◌≡◌, ℕ, ◌||◌, [], ◌∷◌, None};
 ghost use Rattle.model.specs.View.{at};
 ghost use Rattle.index.specs.Indexes.{rows_with};
-ghost use Rattle.narrowing.specs.Waking.{WokenAll};
 ghost use Rattle.indexed.specs.Waking.{WokenEach, WokenFor, CaughtUp, left_out, differ, woken_at};
 
-use index::{Index, workable_count};
-use model::book::Book;
+use index::Index;
 use model::boxes::FlagBox;
 use model::domain::Domain;
 use model::scheduler::Scheduler;
-
-// Wakes every row.
-pub(crate) fn wake_all<B: Book, S: Scheduler>(book: &B, scheduler: &mut S)
-    ensures { WokenAll (B.Book.rows book.now) (S.Scheduler.waits scheduler.old) (S.Scheduler.waits scheduler.new) }
-{
-    for row in 0..workable_count(book) {
-        scheduler.wake(row);
-    }
-}
 
 // Whether the number is the one that is left out.
 fn left_out(but: Option<u16>, row: u16) -> bool
     ensures { result ≡ left_out but row }
 {
-    match but {
-        Some(other) => row == other,
-        None => false,
-    }
+    but.is_some_and(|other| row == other)
 }
 
 // Wakes a row, unless it is the one that is left out.

@@ -9,9 +9,11 @@ use model::book::Book;
 use model::boxes::FlagBox;
 use model::scheduler::Scheduler;
 use model::strike::Strike;
-use waking::{wake_all, wake_neighbours};
+use waking::wake_neighbours;
 
 mod waking;
+
+pub use waking::wake_all;
 
 // What narrowing came to: every flag has a value left, or some flag has none.
 #[derive(Clone, Copy, PartialEq, Eq, Debug)]

@@ -1,23 +1,15 @@
 // Waking the rows that may have lost support.
-ghost use Rattle.std.specs.Prelude.{◌≡◌, length};
-ghost use Rattle.model.specs.Rows.{workable};
 ghost use Rattle.narrowing.specs.Waking.{WokenAll, WokenOne, WokenAt, WokenFor, WokenNear};
 
-use model::book::Book;
+use model::book::{Book, workable_count};
 use model::scheduler::Scheduler;
 
-// The number of rows that a scheduler can hold.
-fn workable_count<B: Book>(book: &B) -> u16
-    ensures { result ≡ length (workable (B.Book.rows book.now)) }
-{
-    book.count().min(1024)
-}
-
 // Wakes every row.
-pub(crate) fn wake_all<B: Book, S: Scheduler>(book: &B, scheduler: &mut S)
+pub fn wake_all<B: Book, S: Scheduler>(book: &B, scheduler: &mut S)
     ensures { WokenAll (B.Book.rows book.now) (S.Scheduler.waits scheduler.old) (S.Scheduler.waits scheduler.new) }
 {
-    for row in 0..workable_count(book) {
+    let count = workable_count(book);
+    for row in 0..count {
         scheduler.wake(row);
     }
 }
