@@ -4,6 +4,7 @@ use clauses::literal::Literal;
 use model::book::Book;
 use model::boxes::FlagBox;
 use model::domain::Domain;
+use model::fact::Fact;
 use std::alloc::Global;
 use std::process::Abort;
 use std::test::Fail;
@@ -33,6 +34,10 @@ fn no(flag: usize) -> Literal<usize> {
         flag,
         positive: false,
     }
+}
+
+fn fact(flag: u8, value: bool) -> Fact {
+    Fact { flag, value }
 }
 
 fn table_of(heap: Global, relations: &[Relation<usize>]) -> Result<Table, Fail> {

@@ -1,12 +1,13 @@
 // Narrowing over tables and joined books, under every scheduler, and against brute force.
-use super::{check_sets, clauses_of, four_flags, no, table_of, yes};
+use super::{check_sets, clauses_of, fact, four_flags, no, table_of, yes};
 use clauses::clauses::Clauses;
 use index::Index;
-use indexed::{narrow, narrow_to};
+use indexed::{Indexed, narrow, narrow_to};
 use joined::Joined;
 use model::book::Book;
 use model::boxes::FlagBox;
 use model::domain::Domain;
+use model::fact::Fact;
 use model::scheduler::Scheduler;
 use model::strike::Strike;
 use narrowing::Verdict;
@@ -52,12 +53,11 @@ fn all_four_are_open_by_index(rt: HostRuntime) -> Result<(), Fail> {
 #[test]
 fn y_1_settles_all_four_by_index(rt: HostRuntime) -> Result<(), Fail> {
     let heap = rt.alloc();
-    let table = four_flags(heap)?;
-    let index = Index::new(heap, &table)?;
+    let indexed = Indexed::new(heap, four_flags(heap)?)?;
     let mut queue = Queue::new();
     let mut b = FlagBox::all_open();
     assert_eq!(rt;
-        narrow_to(&table, &index, &mut queue, &mut b, 1, true),
+        indexed.narrow_to(&mut queue, &mut b, fact(1, true)),
         Verdict::Alive
     );
     check_sets(
@@ -66,11 +66,11 @@ fn y_1_settles_all_four_by_index(rt: HostRuntime) -> Result<(), Fail> {
         [Domain::Zero, Domain::One, Domain::Zero, Domain::Zero],
     );
     assert_eq!(rt;
-        narrow_to(&table, &index, &mut queue, &mut b, 1, true),
+        indexed.narrow_to(&mut queue, &mut b, fact(1, true)),
         Verdict::Alive
     );
     assert_eq!(rt;
-        narrow_to(&table, &index, &mut queue, &mut b, 2, true),
+        indexed.narrow_to(&mut queue, &mut b, fact(2, true)),
         Verdict::Dead
     );
     assert_eq!(rt; queue.take(), None);
@@ -98,11 +98,11 @@ fn a_flag_that_no_row_touches_can_die_by_index(rt: HostRuntime) -> Result<(), Fa
     let index = Index::new(heap, &table)?;
     let mut b = FlagBox::all_open();
     assert_eq!(rt;
-        narrow_to(&table, &index, &mut Ring::new(), &mut b, 200, true),
+        narrow_to(&table, &index, &mut Ring::new(), &mut b, fact(200, true)),
         Verdict::Alive
     );
     assert_eq!(rt;
-        narrow_to(&table, &index, &mut Ring::new(), &mut b, 200, false),
+        narrow_to(&table, &index, &mut Ring::new(), &mut b, fact(200, false)),
         Verdict::Dead
     );
     assert_eq!(rt; narrowed(heap, &table, &mut b)?, Verdict::Dead);
@@ -115,13 +115,12 @@ fn a_fact_forces_a_literal(rt: HostRuntime) -> Result<(), Fail> {
     let heap = rt.alloc();
     let first = clauses_of(heap, &[&[yes(0), yes(3)]])?;
     let second = table_of(heap, &[And(0, 1, 2)])?;
-    let book = Joined { first, second };
-    let index = Index::new(heap, &book)?;
+    let indexed = Indexed::new(heap, Joined { first, second })?;
     let mut queue = Queue::new();
     let mut b = FlagBox::all_open();
-    assert_eq!(rt; narrow(&book, &index, &mut queue, &mut b), Verdict::Alive);
+    assert_eq!(rt; indexed.narrow(&mut queue, &mut b), Verdict::Alive);
     assert_eq!(rt;
-        narrow_to(&book, &index, &mut queue, &mut b, 0, false),
+        indexed.narrow_to(&mut queue, &mut b, fact(0, false)),
         Verdict::Alive
     );
     check_sets(
@@ -146,7 +145,7 @@ fn a_fact_goes_along_a_chain_by_index(rt: HostRuntime) -> Result<(), Fail> {
     ring.wake(1000);
     let mut b = FlagBox::all_open();
     assert_eq!(rt;
-        narrow_to(&table, &index, &mut ring, &mut b, 255, true),
+        narrow_to(&table, &index, &mut ring, &mut b, fact(255, true)),
         Verdict::Alive
     );
     for flag in 0..=u8::MAX {
@@ -160,15 +159,14 @@ fn a_fact_goes_along_a_chain_by_index(rt: HostRuntime) -> Result<(), Fail> {
 #[test]
 fn all_1024_numbers_wait_at_the_start_by_index(rt: HostRuntime) -> Result<(), Fail> {
     let heap = rt.alloc();
-    let table = four_flags(heap)?;
-    let index = Index::new(heap, &table)?;
+    let indexed = Indexed::new(heap, four_flags(heap)?)?;
     let mut ring = Ring::new();
     for row in 0..1024u16 {
         assert!(rt; ring.wake(row));
     }
     let mut b = FlagBox::all_open();
     b.cut(1, true);
-    assert_eq!(rt; narrow(&table, &index, &mut ring, &mut b), Verdict::Alive);
+    assert_eq!(rt; indexed.narrow(&mut ring, &mut b), Verdict::Alive);
     check_sets(
         &rt,
         &b,
@@ -201,16 +199,10 @@ fn meets_all(state: u8) -> bool {
     clauses && table
 }
 
-// Every state that fits the facts lies in the box, and striking any row once more changes nothing.
-fn check_narrowed<B: Book>(
-    rt: &impl Abort,
-    book: &B,
-    b: &FlagBox,
-    flag: u8,
-    value: bool,
-) -> Result<(), Fail> {
+// Every state that fits the fact lies in the box, and striking any row once more changes nothing.
+fn check_narrowed<B: Book>(rt: &impl Abort, book: &B, b: &FlagBox, fact: Fact) -> Result<(), Fail> {
     for state in 0..64u8 {
-        if meets_all(state) && digit(state, flag) == value {
+        if meets_all(state) && digit(state, fact.flag) == fact.value {
             for other in 0..6u8 {
                 assert!(rt; b.get(other).contains(digit(state, other)));
             }
@@ -235,45 +227,33 @@ fn digit(state: u8, flag: u8) -> bool {
     }
 }
 
-fn check_same(rt: &impl Abort, a: &FlagBox, b: &FlagBox) {
-    for flag in 0..=u8::MAX {
-        assert_eq!(rt; a.get(flag), b.get(flag));
-    }
-}
-
 // One fact in a narrowed box, under three schedulers.
 fn check_fact<B: Book, L: Scheduler>(
     rt: &impl Abort,
-    book: &B,
-    index: &Index,
+    indexed: &Indexed<B>,
     lanes: &mut L,
     open: &FlagBox,
-    flag: u8,
-    value: bool,
+    fact: Fact,
 ) -> Result<(), Fail> {
     let mut a = *open;
     let mut b = *open;
     let mut c = *open;
-    let verdict = narrow_to(book, index, &mut Ring::new(), &mut a, flag, value);
-    assert_eq!(rt;
-        narrow_to(book, index, &mut Queue::new(), &mut b, flag, value),
-        verdict
-    );
-    assert_eq!(rt; narrow_to(book, index, lanes, &mut c, flag, value), verdict);
+    let verdict = indexed.narrow_to(&mut Ring::new(), &mut a, fact);
+    assert_eq!(rt; indexed.narrow_to(&mut Queue::new(), &mut b, fact), verdict);
+    assert_eq!(rt; indexed.narrow_to(lanes, &mut c, fact), verdict);
     assert_eq!(rt; lanes.take(), None);
     match verdict {
         Verdict::Alive => {
-            check_same(rt, &a, &b);
-            check_same(rt, &a, &c);
-            check_narrowed(rt, book, &a, flag, value)
+            assert!(rt; a == b && a == c);
+            check_narrowed(rt, indexed.book(), &a, fact)
         }
-        Verdict::Dead => check_none_fits(rt, flag, value),
+        Verdict::Dead => check_none_fits(rt, fact),
     }
 }
 
-fn check_none_fits(rt: &impl Abort, flag: u8, value: bool) -> Result<(), Fail> {
+fn check_none_fits(rt: &impl Abort, fact: Fact) -> Result<(), Fail> {
     for state in 0..64u8 {
-        assert!(rt; !(meets_all(state) && digit(state, flag) == value));
+        assert!(rt; !(meets_all(state) && digit(state, fact.flag) == fact.value));
     }
     Ok(())
 }
@@ -282,17 +262,13 @@ fn check_none_fits(rt: &impl Abort, flag: u8, value: bool) -> Result<(), Fail> {
 #[test]
 fn all_orders_end_in_the_same_box(rt: HostRuntime) -> Result<(), Fail> {
     let heap = rt.alloc();
-    let book = six_flags(heap)?;
-    let index = Index::new(heap, &book)?;
-    let mut lanes = Lanes::new(Queue::new(), Ring::new(), book.first.count());
+    let indexed = Indexed::new(heap, six_flags(heap)?)?;
+    let mut lanes = Lanes::new(Queue::new(), Ring::new(), indexed.book().first.count());
     let mut open = FlagBox::all_open();
-    assert_eq!(rt;
-        narrow(&book, &index, &mut lanes, &mut open),
-        Verdict::Alive
-    );
+    assert_eq!(rt; indexed.narrow(&mut lanes, &mut open), Verdict::Alive);
     for flag in 0..6u8 {
-        check_fact(&rt, &book, &index, &mut lanes, &open, flag, false)?;
-        check_fact(&rt, &book, &index, &mut lanes, &open, flag, true)?;
+        check_fact(&rt, &indexed, &mut lanes, &open, fact(flag, false))?;
+        check_fact(&rt, &indexed, &mut lanes, &open, fact(flag, true))?;
     }
     Ok(())
 }
