@@ -21,19 +21,17 @@ mod lining;
 mod ring;
 mod striking;
 
+fn literal(flag: usize, positive: bool) -> Literal<usize> {
+    Literal { flag, positive }
+}
+
 // A flag, and its negation.
 fn yes(flag: usize) -> Literal<usize> {
-    Literal {
-        flag,
-        positive: true,
-    }
+    literal(flag, true)
 }
 
 fn no(flag: usize) -> Literal<usize> {
-    Literal {
-        flag,
-        positive: false,
-    }
+    literal(flag, false)
 }
 
 fn fact(flag: u8, value: bool) -> Fact {

@@ -1,5 +1,5 @@
 // Clauses: every refusal of adding at its edge, and strikes against every tuple.
-use super::{check_touches, no, yes};
+use super::{check_touches, literal, no, yes};
 use clauses::clauses::Clauses;
 use clauses::literal::Literal;
 use model::book::Book;
@@ -108,12 +108,12 @@ fn check_last_flag(rt: &impl Abort, book: &Clauses) {
     assert_eq!(rt; book.strike(1, &mut b), Strike::Unchanged);
 }
 
-fn set_of(zero: bool, one: bool) -> Domain {
-    match (zero, one) {
-        (true, true) => Domain::Open,
-        (true, false) => Domain::Zero,
-        (false, true) => Domain::One,
-        (false, false) => Domain::Empty,
+// A set with one value more.
+fn with_value(set: Domain, value: bool) -> Domain {
+    match (set, value) {
+        (Domain::Empty | Domain::Zero, false) => Domain::Zero,
+        (Domain::Empty | Domain::One, true) => Domain::One,
+        _ => Domain::Open,
     }
 }
 
@@ -124,98 +124,61 @@ fn strikes_are_exact(rt: HostRuntime) -> Result<(), Fail> {
         for q in [false, true] {
             for r in [false, true] {
                 let mut book = Clauses::new(rt.alloc())?;
-                book.add(&[
-                    Literal {
-                        flag: 7,
-                        positive: p,
-                    },
-                    Literal {
-                        flag: 0,
-                        positive: q,
-                    },
-                    Literal {
-                        flag: 255,
-                        positive: r,
-                    },
-                ])?;
-                check_every_box(&rt, &book, p, q, r);
+                book.add(&[literal(7, p), literal(0, q), literal(255, r)])?;
+                check_every_box(&rt, &book, [p, q, r]);
             }
         }
     }
     Ok(())
 }
 
-fn check_every_box(rt: &impl Abort, book: &Clauses, p: bool, q: bool, r: bool) {
+fn check_every_box(rt: &impl Abort, book: &Clauses, signs: [bool; 3]) {
     let sets = [Domain::Empty, Domain::Zero, Domain::One, Domain::Open];
     for x in sets {
         for y in sets {
             for z in sets {
-                one_case(rt, book, p, q, r, x, y, z);
+                check_box(rt, book, signs, [x, y, z]);
             }
         }
     }
 }
 
-// A strike of the clause over flags 7, 0 and 255, with these signs, in a box with these sets.
-fn one_case(
-    rt: &impl Abort,
-    book: &Clauses,
-    p: bool,
-    q: bool,
-    r: bool,
-    x: Domain,
-    y: Domain,
-    z: Domain,
-) {
-    let mut b = FlagBox::all_open();
-    b.put(7, x);
-    b.put(0, y);
-    b.put(255, z);
-    let bits = [false, true];
-    let mut x0 = false;
-    let mut x1 = false;
-    let mut y0 = false;
-    let mut y1 = false;
-    let mut z0 = false;
-    let mut z1 = false;
-    for u in bits {
-        for v in bits {
-            for w in bits {
-                if (u == p || v == q || w == r) && x.contains(u) && y.contains(v) && z.contains(w) {
-                    if u {
-                        x1 = true;
-                    } else {
-                        x0 = true;
-                    }
-                    if v {
-                        y1 = true;
-                    } else {
-                        y0 = true;
-                    }
-                    if w {
-                        z1 = true;
-                    } else {
-                        z0 = true;
-                    }
+// What is left of three sets: the values of the tuples from them in which some literal is true.
+fn left_of(signs: [bool; 3], sets: [Domain; 3]) -> [Domain; 3] {
+    let [p, q, r] = signs;
+    let [x, y, z] = sets;
+    let mut left = [Domain::Empty; 3];
+    for u in [false, true] {
+        for v in [false, true] {
+            for w in [false, true] {
+                let some_true = u == p || v == q || w == r;
+                if some_true && x.contains(u) && y.contains(v) && z.contains(w) {
+                    left[0] = with_value(left[0], u);
+                    left[1] = with_value(left[1], v);
+                    left[2] = with_value(left[2], w);
                 }
             }
         }
     }
+    left
+}
+
+// A strike of the clause over flags 7, 0 and 255, with these signs, in a box with these sets.
+fn check_box(rt: &impl Abort, book: &Clauses, signs: [bool; 3], sets: [Domain; 3]) {
+    let mut b = FlagBox::all_open();
+    b.put(7, sets[0]);
+    b.put(0, sets[1]);
+    b.put(255, sets[2]);
     let answer = book.strike(0, &mut b);
-    assert_eq!(rt; b.get(7), set_of(x0, x1));
-    assert_eq!(rt; b.get(0), set_of(y0, y1));
-    assert_eq!(rt; b.get(255), set_of(z0, z1));
+    let left = left_of(signs, sets);
+    assert_eq!(rt; [b.get(7), b.get(0), b.get(255)], left);
     assert_eq!(rt; b.get(1), Domain::Open);
-    let dead = !x0 && !x1;
-    let same = b.get(7) == x && b.get(0) == y && b.get(255) == z;
-    assert_eq!(rt;
-        answer,
-        if dead {
-            Strike::Dead
-        } else if same {
-            Strike::Unchanged
-        } else {
-            Strike::Changed
-        }
-    );
+    let said = if left[0] == Domain::Empty {
+        Strike::Dead
+    } else if left == sets {
+        Strike::Unchanged
+    } else {
+        Strike::Changed
+    };
+    assert_eq!(rt; answer, said);
 }
