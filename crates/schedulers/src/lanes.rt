@@ -15,9 +15,9 @@ pub enum Lane {
 // A scheduler made of two, one for each lane. The first lane is served first.
 #[derive(Drop)]
 pub struct Lanes<A, B> {
-    first: A,
-    second: B,
-    boundary: u16,
+    pub first: A,
+    pub second: B,
+    pub boundary: u16,
 }
 
 // Whether the number belongs in the lane.
