@@ -1,5 +1,5 @@
 -- Why the number that a ring seeks is the one that comes first, going round.
-use Rattle.std.proofs.Common.{◌≡◌, ℕ, zero, suc, ◌+◌, ◌-◌, ◌<◌, ◌≤◌, Bool, true, false, ◌⊎◌, Some, None, Option, sym, refl, ap, ◌∙◌, subst, inl, inr, mod-eq_of_lt, arith, MatchOption}
+use Rattle.std.proofs.Common.{◌≡◌, ℕ, zero, suc, ◌+◌, ◌-◌, ◌<◌, ◌≤◌, Bool, true, false, ◌⊎◌, Some, None, Option, sym, refl, ap, ◌∙◌, subst, inl, inr, mod-eq_of_lt, arith, min, MatchOption}
 use Rattle.std.proofs.lemmas.Bool.{cases_Bool, cases_lt, cases_eq, cond-true, cond-false}
 use Rattle.model.specs.Waiting.{Bounded, NoneWaits}
 use Rattle.schedulers.specs.Rings.{after, seek, Leads, Due, ComesFirst, InOrder, RingOrder}
@@ -67,6 +67,11 @@ module _ (waits : ℕ → Bool) where
       round start s (λ j p q. past j p)
       ∙ reach 0 start k (omega arith) (record { on = omega arith; below = omega arith; waiting = w; first = λ j p q. h j q }) l
 
+  -- what is first on a stretch, where none waits from the bound on
+  pub walked : (from to bound : ℕ) → ((k : ℕ) → bound ≤ k → waits k ≡ false) → (r : Option ℕ) → MatchOption r ((k : ℕ) → from ≤ k → k < min to bound → waits k ≡ false) (λ i. (from ≤ i) × (i < min to bound) × (waits i ≡ true) × ((k : ℕ) → from ≤ k → k < i → waits k ≡ false)) → MatchOption r ((k : ℕ) → from ≤ k → k < to → waits k ≡ false) (λ k. Leads waits from to k)
+  walked from to bound quiet None h = λ k a b. elim (cases_lt k bound) [ inl l ↦ h k a (omega arith) | inr g ↦ quiet k g ]
+  walked from to bound quiet (Some i) (a, b, w, h) = record { on = a; below = omega arith; waiting = w; first = h }
+
   -- a number at or past 1,024 does not wait
   outside : Bounded waits → (j : ℕ) → 1024 ≤ j → waits j ≡ false
   outside b j h = elim (cases_Bool (waits j)) [ inl w ↦ absurd (let l : j < 1024 = b j w in omega arith) | inr w ↦ w ]
@@ -100,6 +105,11 @@ module _ (waits : ℕ → Bool) where
     due_round h (Some k) e =
         let l : k < 1024 = omega (arith, e.below) in
         (sym (sought start k s l e.waiting (inr (e.below, past h, λ j q. e.first j (omega arith) q))), e.waiting, l)
+
+    -- the stretch up to the end, or else the stretch from 0
+    pub due_in_turn : {FromZero : Type 0} (ahead r : Option ℕ) → MatchOption ahead ((j : ℕ) → start ≤ j → j < 1024 → waits j ≡ false) (λ k. Leads waits start 1024 k) → MatchOption ahead FromZero (λ k. r ≡ Some k) → (FromZero → MatchOption r ((j : ℕ) → 0 ≤ j → j < start → waits j ≡ false) (λ k. Leads waits 0 start k)) → Due waits start r
+    due_in_turn None r h p turns = due_round h r (turns p)
+    due_in_turn (Some k) r h e turns = subst (Due waits start) (sym e) (due_ahead k h)
 
     -- none waits, or one comes first
     one_comes_first : NoneWaits waits ⊎ ((k : ℕ) × (waits k ≡ true) × ComesFirst waits start k)

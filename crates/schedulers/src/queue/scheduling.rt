@@ -6,7 +6,7 @@ ghost use Rattle.schedulers.specs.Queues.{joins, serves};
 ghost use Rattle.schedulers.specs.Rings.{after};
 ghost use Rattle.schedulers.specs.Bounds.{marked_within};
 
-use crate::marks::no_marks;
+use crate::marks::{NUMBERS, no_marks};
 use crate::queue::Queue;
 use model::scheduler::Scheduler;
 
@@ -16,7 +16,7 @@ impl Queue {
         ensures { line result ≡ [] }
     {
         Queue {
-            order: [0; 1024],
+            order: [0; NUMBERS],
             start: 0,
             len: 0,
             waiting: no_marks(),
@@ -34,21 +34,21 @@ impl Queue {
     fn behind_front(&self) -> usize
         ensures { result ≡ after self.now.start }
     {
-        (self.start + 1) % 1024
+        (self.start + 1) % NUMBERS
     }
 
     // The place after the last number.
     fn end(&self) -> usize
         ensures { result ≡ (self.now.start + self.now.len) % 1024 }
     {
-        (self.start + self.len) % 1024
+        (self.start + self.len) % NUMBERS
     }
 
     // Whether the number may wait and does not yet.
     fn is_new(&self, row: u16) -> bool
         ensures { result ≡ (nat_lt row 1024 && not (marked self.now.waiting row)) }
     {
-        row < 1024 && !self.waiting[row as usize]
+        (row as usize) < NUMBERS && !self.waiting[row as usize]
     }
 }
 
@@ -63,7 +63,7 @@ impl Scheduler for Queue {
         ensures line { line self.new ≡ joins (line self.old) row }
     {
         if !self.is_new(row) {
-            return row < 1024;
+            return (row as usize) < NUMBERS;
         }
         let end = self.end();
         self.order[end] = row;

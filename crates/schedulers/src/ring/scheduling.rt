@@ -4,7 +4,7 @@ ghost use Rattle.schedulers.specs.Marks.{marked};
 ghost use Rattle.schedulers.specs.Rings.{seek, Leads, Due, MovesOn};
 ghost use Rattle.schedulers.specs.Bounds.{marked_within};
 
-use crate::marks::no_marks;
+use crate::marks::{NUMBERS, no_marks};
 use crate::ring::Ring;
 use model::scheduler::Scheduler;
 
@@ -25,22 +25,15 @@ impl Ring {
     fn first(&self, from: usize, to: usize) -> Option<usize>
         ensures { MatchOption result ((j : ℕ) → from ≤ j → j < to → marked self.now.waiting j ≡ false) (λ k. Leads (marked self.now.waiting) from to k) }
     {
-        for k in from..to.min(self.bound) {
-            if self.waiting[k] {
-                return Some(k);
-            }
-        }
-        None
+        (from..to.min(self.bound)).find(|&k| self.waiting[k])
     }
 
     // The number that comes next: from where the round goes on to the end, and then from 0 to there.
     fn due(&self) -> Option<usize>
         ensures { Due (marked self.now.waiting) self.now.next result }
     {
-        match self.first(self.next, 1024) {
-            Some(k) => Some(k),
-            None => self.first(0, self.next),
-        }
+        self.first(self.next, NUMBERS)
+            .or_else(|| self.first(0, self.next))
     }
 }
 
@@ -53,10 +46,10 @@ impl Scheduler for Ring {
         ensures wakes { Wakes row self.old self.new (marked self.old.waiting) (marked self.new.waiting) result }
         ensures next { self.new.next ≡ self.old.next }
     {
-        if row >= 1024 {
+        let k = row as usize;
+        if k >= NUMBERS {
             return false;
         }
-        let k = row as usize;
         self.waiting[k] = true;
         self.bound = self.bound.max(k + 1);
         true
@@ -67,18 +60,14 @@ impl Scheduler for Ring {
         ensures order { result ≡ seek (marked self.old.waiting) self.old.next 1024 }
         ensures next { MovesOn self.old.next self.new.next result }
     {
-        match self.due() {
-            Some(k) => {
-                self.waiting[k] = false;
-                self.next = (k + 1) % 1024;
-                Some(k as u16)
-            }
-            None => {
-                // None waits, so until one is woken there is nothing to walk over.
-                self.bound = 0;
-                None
-            }
-        }
+        let Some(k) = self.due() else {
+            // None waits, so until one is woken there is nothing to walk over.
+            self.bound = 0;
+            return None;
+        };
+        self.waiting[k] = false;
+        self.next = (k + 1) % NUMBERS;
+        Some(k as u16)
     }
 
     // The round goes on after the number last taken.

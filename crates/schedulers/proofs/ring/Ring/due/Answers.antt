@@ -1,14 +1,10 @@
+use Rattle.std.proofs.Common.{rules}
 use Rattle.schedulers.specs.Marks.{marked}
 use Rattle.schedulers.specs.Bounds.{marked_within}
-use Rattle.schedulers.proofs.Rounds.{due_ahead, due_round}
+use Rattle.schedulers.proofs.Rounds.{due_in_turn}
 use Rattle.schedulers.proofs.ring.Ring.due.Goals as goal
 
-pub returns-in-Some : goal.returns-in-Some
-returns-in-Some c =
+pub returns : goal.returns
+returns c =
     let ring = c.args.self.now in
-    due_ahead (marked ring.waiting) ring.next ring.inside (λ k. marked_within ring.waiting 1024 k ring.size) c.in-Some.k c.in-Some.ensures
-
-pub returns-in-None : goal.returns-in-None
-returns-in-None c =
-    let ring = c.args.self.now in
-    due_round (marked ring.waiting) ring.next ring.inside (λ k. marked_within ring.waiting 1024 k ring.size) c.in-None.ensures c.first-in-None.result c.first-in-None.ensures
+    due_in_turn (marked ring.waiting) ring.next ring.inside (λ k. marked_within ring.waiting 1024 k ring.size) c.first.result c.or_else.result c.first.ensures c.or_else.ensures (λ p. search rules)
