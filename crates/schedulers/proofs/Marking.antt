@@ -1,8 +1,11 @@
 -- Lists of marks.
-use Rattle.std.specs.Prelude.{◌≡◌, ℕ, zero, suc, ◌+◌, ◌<◌, ◌≤◌, Bool, true, false, not, ◌&&◌, ◌||◌, List, [], ◌∷◌, length, replicate, ◌==◌, slice_set, refl}
+use Rattle.std.specs.Prelude.{◌≡◌, ℕ, zero, suc, ◌+◌, ◌<◌, ◌≤◌, Bool, true, false, not, ◌&&◌, ◌||◌, List, [], ◌∷◌, length, replicate, ◌==◌, slice_set, nat_lt, Some, refl}
 use Rattle.std.proofs.Common.{sym, ap, ◌∙◌, inl, inr, arith}
 use Rattle.std.proofs.lemmas.Bool.{cases_eq, or_left, eq-eqb, ne_eqb, true≢false, false≢true}
 use Rattle.std.proofs.lemmas.List.{get_or-set_same, get_or-set_other}
+use Rattle.std.proofs.Math.Bool.{and_comm, and_assoc}
+use Rattle.model.specs.Waiting.{Takes}
+use Rattle.schedulers.specs.Bounds.{below_1024, bounded_below}
 use Rattle.schedulers.specs.Marks.{marked, tally}
 
 -- where no mark was set, none is
@@ -57,3 +60,11 @@ marked_unset marks k l j =
       | inl e ↦ ap (marked (slice_set marks k false)) e ∙ get_or-set_same marks k false false l ∙ sym (ap (λ t. not t && marked marks j) (eq-eqb j k e))
       | inr d ↦ get_or-set_other marks k j false false d ∙ sym (ap (λ t. not t && marked marks j) (ne_eqb j k d))
     ]
+
+-- a waiting number is taken: its mark goes
+pub unmarked : (marks : List Bool) (k : ℕ) → length marks ≡ 1024 → below_1024 (marked marks) k ≡ true → Takes (below_1024 (marked marks)) (below_1024 (marked (slice_set marks k false))) (Some k)
+unmarked marks k size w = (
+  w,
+  λ j. ap (λ t. nat_lt j 1024 && t) (marked_unset marks k (omega (arith, size, bounded_below (marked marks) k w)) j)
+      ∙ grind (arith, and_comm, and_assoc),
+)

@@ -1,11 +1,22 @@
 -- Why the number that a ring seeks is the one that comes first, going round.
 use Rattle.std.proofs.Common.{◌≡◌, ℕ, zero, suc, ◌+◌, ◌-◌, ◌<◌, ◌≤◌, Bool, true, false, ◌⊎◌, Some, None, Option, sym, refl, ap, ◌∙◌, subst, inl, inr, mod-eq_of_lt, arith, min, MatchOption}
-use Rattle.std.proofs.lemmas.Bool.{cases_Bool, cases_lt, cases_eq, cond-true, cond-false}
+use Rattle.std.proofs.lemmas.Bool.{cases_Bool, cases_lt, cases_eq, cond-true, cond-false, and_right, and_from, lt-ltb}
 use Rattle.model.specs.Waiting.{Bounded, NoneWaits}
-use Rattle.schedulers.specs.Rings.{after, seek, Leads, Due, ComesFirst, InOrder, RingOrder}
+use Rattle.schedulers.specs.Marks.{marked}
+use Rattle.schedulers.specs.Rings.{Round, Sound, in_round, after, seek, Leads, Due, ComesFirst, InOrder, RingOrder}
 
 some≢none : (k : ℕ) → Some k ≡ None → ⊥
 some≢none k e = let z : ◌≡◌ {A = ℕ} 0 1 = cc in omega arith
+
+-- what is first on a stretch of a ring, where none waits from the bound on
+pub walked : (round : Round) (bound from to : ℕ) → Sound round bound → (r : Option ℕ) → MatchOption r ((k : ℕ) → from ≤ k → k < min to bound → marked round.waiting k ≡ false) (λ i. (from ≤ i) × (i < min to bound) × (marked round.waiting i ≡ true) × ((k : ℕ) → from ≤ k → k < i → marked round.waiting k ≡ false)) → MatchOption r ((k : ℕ) → from ≤ k → k < to → in_round round k ≡ false) (λ k. Leads (in_round round) from to k)
+walked round bound from to s None h = λ k a b. and_right _ _ (elim (cases_lt k bound) [ inl l ↦ h k a (omega arith) | inr g ↦ s.quiet k g ])
+walked round bound from to s (Some i) (a, b, w, h) = record {
+  on = a;
+  below = omega arith;
+  waiting = and_from _ _ (lt-ltb i 1024 (omega (arith, s.limit))) w;
+  first = λ k p q. and_right _ _ (h k p q);
+}
 
 module _ (waits : ℕ → Bool) where
   -- a waiting number is found where the walk starts
@@ -66,11 +77,6 @@ module _ (waits : ℕ → Bool) where
   sought start k s l w (inr (a, past, h)) =
       round start s (λ j p q. past j p)
       ∙ reach 0 start k (omega arith) (record { on = omega arith; below = omega arith; waiting = w; first = λ j p q. h j q }) l
-
-  -- what is first on a stretch, where none waits from the bound on
-  pub walked : (from to bound : ℕ) → ((k : ℕ) → bound ≤ k → waits k ≡ false) → (r : Option ℕ) → MatchOption r ((k : ℕ) → from ≤ k → k < min to bound → waits k ≡ false) (λ i. (from ≤ i) × (i < min to bound) × (waits i ≡ true) × ((k : ℕ) → from ≤ k → k < i → waits k ≡ false)) → MatchOption r ((k : ℕ) → from ≤ k → k < to → waits k ≡ false) (λ k. Leads waits from to k)
-  walked from to bound quiet None h = λ k a b. elim (cases_lt k bound) [ inl l ↦ h k a (omega arith) | inr g ↦ quiet k g ]
-  walked from to bound quiet (Some i) (a, b, w, h) = record { on = a; below = omega arith; waiting = w; first = h }
 
   -- a number at or past 1,024 does not wait
   outside : Bounded waits → (j : ℕ) → 1024 ≤ j → waits j ≡ false
