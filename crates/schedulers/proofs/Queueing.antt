@@ -1,22 +1,24 @@
 -- Lines that stand in a circle of places, with marks for the numbers in them.
-use Rattle.std.proofs.Common.{◌≡◌, ℕ, zero, suc, ◌+◌, ◌-◌, ◌%◌, ◌<◌, Bool, true, false, not, ◌&&◌, ◌||◌, eqb, ltb, ◌≢◌, List, [], ◌∷◌, ◌++◌, length, get_or, set, Some, sym, refl, ap, ◌∙◌, subst, inl, inr, arith}
+use Rattle.std.proofs.Common.{◌≡◌, ℕ, zero, suc, ◌+◌, ◌-◌, ◌%◌, ◌<◌, Bool, true, false, not, ◌&&◌, ◌||◌, eqb, ltb, ◌≢◌, List, [], ◌∷◌, ◌++◌, length, get_or, set, Some, Option, sym, refl, ap, ◌∙◌, subst, inl, inr, arith}
 use Rattle.std.proofs.lemmas.List.{get_or-set_same, get_or-set_other, length-set}
+use Rattle.std.proofs.lemmas.Option.{none-some, same_Some}
 use Rattle.std.proofs.lemmas.Bool.{and_from, and_parts, ltb-true, not-true, and_left, and_right, or_left, or_parts, or_from, eqb-false, eq-eqb, ne_eqb, lt-ltb, not_from_true, cond-true, cases_eq}
 use Rattle.model.specs.Refusals.{some_twice}
 use Rattle.model.specs.Rows.{elem}
 use Rattle.model.specs.Waiting.{Wakes, Takes}
 use Rattle.schedulers.specs.Marks.{marked}
 use Rattle.schedulers.specs.Rings.{after}
-use Rattle.schedulers.specs.Queues.{line_of, in_line, joins, Sound}
+use Rattle.schedulers.specs.Queues.{line_of, in_line, joins, serves, Sound}
 use Rattle.schedulers.specs.Bounds.{marked_within}
 use Rattle.schedulers.proofs.Marking.{marked_set, marked_unset, tally_more, tally_fewer, tally_room}
 
--- a line that is not empty begins with what stands at its start
-line_first : (order : List ℕ) (start len : ℕ) → (len ≡ 0 → ⊥) → line_of order start len ≡ get_or order start 0 ∷ line_of order (after start) (len - 1)
-line_first order start zero h = absurd (h refl)
-line_first order start (suc n) h =
-    let e : n ≡ suc n - 1 = omega arith in
-    ap (λ m. get_or order start 0 ∷ line_of order (after start) m) e
+-- where a line serves a number, it stands at the start, and the rest begins at the next place
+line_first : (order : List ℕ) (start len row : ℕ) → (serves (line_of order start len)).0 ≡ Some row → (0 < len) × (line_of order start len ≡ row ∷ line_of order (after start) (len - 1))
+line_first order start zero row e = absurd (none-some row e)
+line_first order start (suc n) row e =
+    let first : get_or order start 0 ≡ row = same_Some _ _ e in
+    let fewer : n ≡ suc n - 1 = omega arith in
+    (omega arith, cc)
 
 -- a number that is put at the place after a line stands at its end
 line_push : (order : List ℕ) (row place : ℕ) → length order ≡ 1024 → (len start : ℕ) → start < 1024 → len < 1024 → place ≡ (start + len) % 1024 → line_of (set order place row) start (len + 1) ≡ line_of order start len ++ (row ∷ [])
@@ -113,28 +115,31 @@ module _ (order : List ℕ) (start len : ℕ) (waiting : List Bool) (q : Sound o
       refused = λ h. absurd (omega (arith, low));
     }
 
-  -- the number at the start is taken, and the line begins at the next place
-  module _ (some : len ≡ 0 → ⊥) where
-    whole : line_of order start len ≡ get_or order start 0 ∷ line_of order (after start) (len - 1)
-    whole = line_first order start len some
+  -- the number that the line serves is taken
+  module _ (row : ℕ) (first : (serves (line_of order start len)).0 ≡ Some row) where
+    pub some : 0 < len
+    some = (line_first order start len row first).0
 
-    first_waits : marked waiting (get_or order start 0) ≡ true
-    first_waits = q.members _ ∙ ap (elem (get_or order start 0)) whole ∙ or_left _ _ (eq-eqb (get_or order start 0) _ refl)
+    whole : line_of order start len ≡ row ∷ line_of order (after start) (len - 1)
+    whole = (line_first order start len row first).1
 
-    pub first_low : get_or order start 0 < 1024
+    first_waits : marked waiting row ≡ true
+    first_waits = q.members _ ∙ ap (elem row) whole ∙ or_left _ _ (eq-eqb row row refl)
+
+    pub first_low : row < 1024
     first_low = marked_within waiting 1024 _ q.marks first_waits
 
-    parts : (elem (get_or order start 0) (line_of order (after start) (len - 1)) ≡ false) × (some_twice (line_of order (after start) (len - 1)) ≡ false)
+    parts : (elem row (line_of order (after start) (len - 1)) ≡ false) × (some_twice (line_of order (after start) (len - 1)) ≡ false)
     parts = or_parts _ _ (sym (ap some_twice whole) ∙ q.once)
 
-    gone : (k : ℕ) → (not (eqb k (get_or order start 0)) && marked waiting k) ≡ elem k (line_of order (after start) (len - 1))
+    gone : (k : ℕ) → (not (eqb k row) && marked waiting k) ≡ elem k (line_of order (after start) (len - 1))
     gone k =
-        elim (cases_eq k (get_or order start 0)) [
+        elim (cases_eq k row) [
           | inl e ↦ and_left _ _ (not_from_true _ (eq-eqb k _ e)) ∙ sym (ap (λ j. elem j (line_of order (after start) (len - 1))) e ∙ parts.0)
           | inr d ↦ ap (λ t. not t && marked waiting k) (ne_eqb k _ d) ∙ q.members k ∙ ap (elem k) whole ∙ ap (λ t. t || elem k (line_of order (after start) (len - 1))) (ne_eqb k _ d)
         ]
 
-    pub sound_served : Sound order (after start) (len - 1) (set waiting (get_or order start 0) false)
+    pub sound_served : Sound order (after start) (len - 1) (set waiting row false)
     sound_served = record {
       places = q.places;
       marks = length-set waiting _ false ∙ q.marks;
@@ -145,5 +150,8 @@ module _ (order : List ℕ) (start len : ℕ) (waiting : List Bool) (q : Sound o
       count = omega (arith, tally_fewer waiting _ first_waits, q.count);
     }
 
-    pub taken : Takes (in_line (line_of order start len)) (in_line (line_of order (after start) (len - 1))) (Some (get_or order start 0))
-    taken = subst (λ (line : List ℕ). Takes (in_line line) (in_line (line_of order (after start) (len - 1))) (Some (get_or order start 0))) (sym whole) (takes_served _ _ first_low parts.0)
+    pub taken : Takes (in_line (line_of order start len)) (in_line (line_of order (after start) (len - 1))) (Some row)
+    taken = subst (λ (line : List ℕ). Takes (in_line line) (in_line (line_of order (after start) (len - 1))) (Some row)) (sym whole) (takes_served _ _ first_low parts.0)
+
+    pub served : ◌≡◌ {A = Option ℕ × List ℕ} (Some row, line_of order (after start) (len - 1)) (serves (line_of order start len))
+    served = sym (ap serves whole)

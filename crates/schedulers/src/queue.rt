@@ -45,6 +45,16 @@ impl Queue {
         }
     }
 
+    // The number that has waited longest.
+    fn front(&self) -> Option<u16>
+        ensures { result ≡ (serves self.now).0 }
+    {
+        if self.len == 0 {
+            return None;
+        }
+        Some(self.order[self.start])
+    }
+
     // Whether the number may wait and does not yet.
     fn is_new(&self, row: u16) -> bool
         ensures { result ≡ (nat_lt row 1024 && not (elem row self.now)) }
@@ -78,10 +88,7 @@ impl Scheduler for Queue {
         ensures is_line { IsLine self.old }
         ensures line { (result, self.new) ≡ serves self.old }
     {
-        if self.len == 0 {
-            return None;
-        }
-        let row = self.order[self.start];
+        let row = self.front()?;
         self.start = (self.start + 1) % NUMBERS;
         self.len -= 1;
         self.waiting[row as usize] = false;
