@@ -1,5 +1,5 @@
 -- Lines that stand in a circle of places, with marks for the numbers in them.
-use Rattle.std.proofs.Common.{◌≡◌, ℕ, zero, suc, ◌+◌, ◌-◌, ◌%◌, ◌<◌, Bool, true, false, not, ◌&&◌, ◌||◌, eqb, ltb, ◌≢◌, List, [], ◌∷◌, ◌++◌, length, get_or, set, Some, Option, sym, refl, ap, ◌∙◌, subst, inl, inr, arith}
+use Rattle.std.proofs.Common.{◌≡◌, ℕ, zero, suc, ◌+◌, ◌-◌, ◌%◌, ◌<◌, Bool, true, false, not, ◌&&◌, ◌||◌, eqb, ltb, ◌≢◌, List, [], ◌∷◌, ◌++◌, length, get_or, set, Some, sym, refl, ap, ◌∙◌, subst, inl, inr, arith}
 use Rattle.std.proofs.lemmas.List.{get_or-set_same, get_or-set_other, length-set}
 use Rattle.std.proofs.lemmas.Option.{none-some, same_Some}
 use Rattle.std.proofs.lemmas.Bool.{and_from, and_parts, ltb-true, not-true, and_left, and_right, or_left, or_parts, or_from, eqb-false, eq-eqb, ne_eqb, lt-ltb, not_from_true, cond-true, cases_eq}
@@ -9,8 +9,7 @@ use Rattle.model.specs.Waiting.{Wakes, Takes}
 use Rattle.schedulers.specs.Marks.{marked}
 use Rattle.schedulers.specs.Rings.{after}
 use Rattle.schedulers.specs.Queues.{line_of, in_line, joins, serves, Sound}
-use Rattle.schedulers.specs.Bounds.{marked_within}
-use Rattle.schedulers.proofs.Marking.{marked_set, marked_unset, tally_more, tally_fewer, tally_room}
+use Rattle.schedulers.proofs.Marking.{marked_within, marked_set, marked_unset, tally_more, tally_fewer, tally_room}
 
 -- where a line serves a number, it stands at the start, and the rest begins at the next place
 line_first : (order : List ℕ) (start len row : ℕ) → (serves (line_of order start len)).0 ≡ Some row → (0 < len) × (line_of order start len ≡ row ∷ line_of order (after start) (len - 1))
@@ -147,11 +146,8 @@ module _ (order : List ℕ) (start len : ℕ) (waiting : List Bool) (q : Sound o
       short = omega (arith, q.short);
       members = λ k. marked_unset waiting _ (omega (arith, first_low, q.marks)) k ∙ gone k;
       once = parts.1;
-      count = omega (arith, tally_fewer waiting _ first_waits, q.count);
+      count = omega (arith, tally_fewer waiting _ (omega (arith, first_low, q.marks)) first_waits, q.count);
     }
 
     pub taken : Takes (in_line (line_of order start len)) (in_line (line_of order (after start) (len - 1))) (Some row)
     taken = subst (λ (line : List ℕ). Takes (in_line line) (in_line (line_of order (after start) (len - 1))) (Some row)) (sym whole) (takes_served _ _ first_low parts.0)
-
-    pub served : ◌≡◌ {A = Option ℕ × List ℕ} (Some row, line_of order (after start) (len - 1)) (serves (line_of order start len))
-    served = sym (ap serves whole)
