@@ -3,7 +3,6 @@ use Rattle.std.specs.Prelude.{◌≡◌, ℕ, zero, suc, ◌+◌, ◌<◌, Bool,
 use Rattle.std.proofs.Common.{sym, ap, ◌∙◌, inl, inr, arith}
 use Rattle.std.proofs.lemmas.Bool.{both_ways, cases_eq, cases_lt, or_left, eq-eqb, ne_eqb}
 use Rattle.std.proofs.lemmas.List.Sums.{count_by-le-length, sum_by-set}
-use Rattle.std.proofs.lemmas.List.Folds.{sum_by-replicate}
 use Rattle.std.proofs.lemmas.List.{length-set, get_or_past, get_or-set_same, get_or-set_other}
 use Rattle.std.proofs.Math.Bool.{and_comm, and_assoc}
 use Rattle.model.specs.Waiting.{Takes}
@@ -15,9 +14,6 @@ pub none_marked : (n k : ℕ) → marked (replicate n false) k ≡ false
 none_marked zero k = refl
 none_marked (suc n) zero = refl
 none_marked (suc n) (suc k) = none_marked n k
-
-pub none_set : (n : ℕ) → tally (replicate n false) ≡ 0
-none_set n = omega (arith, sum_by-replicate (λ set. cond set 1 0) n false)
 
 -- a marked number stands within the list
 pub marked_within : (marks : List Bool) (n k : ℕ) → length marks ≡ n → marked marks k ≡ true → k < n

@@ -2,6 +2,7 @@
 use Rattle.std.proofs.Common.{◌≡◌, ℕ, zero, suc, ◌+◌, ◌-◌, ◌%◌, ◌<◌, Bool, true, false, not, ◌&&◌, ◌||◌, eqb, ltb, ◌≢◌, List, [], ◌∷◌, ◌++◌, length, get_or, set, Some, sym, refl, ap, ◌∙◌, subst, inl, inr, arith}
 use Rattle.std.proofs.lemmas.List.{get_or-set_same, get_or-set_other, length-set}
 use Rattle.std.proofs.lemmas.Option.{none-some, same_Some}
+use Rattle.std.proofs.Math.Bool.{or_comm, or_assoc}
 use Rattle.std.proofs.lemmas.Bool.{and_from, and_parts, ltb-true, not-true, and_left, and_right, or_left, or_parts, or_from, eqb-false, eq-eqb, ne_eqb, lt-ltb, not_from_true, cond-true, cases_eq}
 use Rattle.model.specs.Refusals.{some_twice}
 use Rattle.model.specs.Rows.{elem}
@@ -37,13 +38,7 @@ line_push order row place size (suc n) start s l e =
 -- what stands in a line with one more at its end
 pub elem_push : (j k : ℕ) (ks : List ℕ) → elem j (ks ++ (k ∷ [])) ≡ (eqb j k || elem j ks)
 elem_push j k [] = refl
-elem_push j k (i ∷ is) = ap (λ t. eqb j i || t) (elem_push j k is) ∙ swapped (eqb j i) (eqb j k) (elem j is)
-  where
-    swapped : (a b t : Bool) → (a || (b || t)) ≡ (b || (a || t))
-    swapped true true t = refl
-    swapped true false t = refl
-    swapped false true t = refl
-    swapped false false t = refl
+elem_push j k (i ∷ is) = ap (λ t. eqb j i || t) (elem_push j k is) ∙ grind (arith, or_comm, or_assoc)
 
 -- a number that does not stand in a line goes to its end, and still none stands there twice
 twice_push : (k : ℕ) (ks : List ℕ) → elem k ks ≡ false → some_twice ks ≡ false → some_twice (ks ++ (k ∷ [])) ≡ false

@@ -1,12 +1,10 @@
 -- Why the number that a ring seeks is the one that comes first, going round.
 use Rattle.std.proofs.Common.{◌≡◌, ℕ, zero, suc, ◌+◌, ◌-◌, ◌<◌, ◌≤◌, Bool, true, false, ◌⊎◌, Some, None, Option, sym, refl, ap, ◌∙◌, subst, inl, inr, mod-eq_of_lt, arith, min, MatchOption}
+use Rattle.std.proofs.lemmas.Option.{none-some}
 use Rattle.std.proofs.lemmas.Bool.{cases_Bool, cases_lt, cases_eq, cond-true, cond-false, and_right, and_from, lt-ltb}
 use Rattle.model.specs.Waiting.{Bounded, NoneWaits}
 use Rattle.schedulers.specs.Marks.{marked}
 use Rattle.schedulers.specs.Rings.{Round, Sound, in_round, after, seek, Leads, Due, ComesFirst, InOrder, RingOrder}
-
-some≢none : (k : ℕ) → Some k ≡ None → ⊥
-some≢none k e = let z : ◌≡◌ {A = ℕ} 0 1 = cc in omega arith
 
 -- what is first on a stretch of a ring, where none waits from the bound on
 pub walked : (round : Round) (bound from to : ℕ) → Sound round bound → (r : Option ℕ) → MatchOption r ((k : ℕ) → from ≤ k → k < min to bound → marked round.waiting k ≡ false) (λ i. (from ≤ i) × (i < min to bound) × (marked round.waiting i ≡ true) × ((k : ℕ) → from ≤ k → k < i → marked round.waiting k ≡ false)) → MatchOption r ((k : ℕ) → from ≤ k → k < to → in_round round k ≡ false) (λ k. Leads (in_round round) from to k)
@@ -135,14 +133,14 @@ module _ (waits : ℕ → Bool) where
     in_order : InOrder waits start
     in_order = record {
       found = λ k e. elim one_comes_first [
-        | inl none ↦ absurd (some≢none k (sym e ∙ missed none 1024 start))
+        | inl none ↦ absurd (none-some k (sym (missed none 1024 start) ∙ e))
         | inr (j, w, f) ↦ (let same : j ≡ k = cc (first_sought j w f, e) in
             subst (λ (i : ℕ). (waits i ≡ true) × ComesFirst waits start i) same (w, f))
       ];
       first = first_sought;
       none = λ e. elim one_comes_first [
         | inl none ↦ none
-        | inr (j, w, f) ↦ absurd (some≢none j (sym (first_sought j w f) ∙ e))
+        | inr (j, w, f) ↦ absurd (none-some j (sym e ∙ first_sought j w f))
       ];
       empty = λ none. missed none 1024 start;
     }
