@@ -1,10 +1,18 @@
 -- Why the first lane is served first.
-use Rattle.std.proofs.Common.{◌≡◌, ℕ, zero, suc, ◌<◌, Bool, true, false, cond, not, ◌&&◌, ◌||◌, ltb, Some, None, Option, sym, refl, ap, ◌∙◌, subst, inl, inr, arith}
+use Rattle.std.proofs.Common.{◌≡◌, ℕ, zero, suc, ◌<◌, Bool, true, false, cond, not, ◌&&◌, ◌||◌, eqb, ltb, Some, None, Option, sym, refl, ap, ◌∙◌, inl, inr, arith}
 use Rattle.std.proofs.lemmas.Bool.{and_parts, or_left, or_right, or_from, lt-ltb, ltb-true, not-true, not_from_true, and_left, both_ways, cond-true, cond-false, cases_eq}
 use Rattle.model.specs.Waiting.{Bounded, NoneWaits, Takes}
-use Rattle.schedulers.specs.Lanes.{in_lane, some_below, lane_served, lane_answered, TakesFirst, TakesSecond, InTurn, LaneTakes}
-use Rattle.schedulers.specs.declared.lanes.Lane.TheVariants.{First, Second}
+use Rattle.schedulers.specs.Lanes.{Lane, First, Second, among, some_below, lane_served, lane_answered, in_lanes, LaneTakes}
 use Rattle.schedulers.specs.declared.lanes.Lanes.{Lanes}
+
+-- whether a number belongs in a lane
+abbrev pub belongs : ℕ → Lane → ℕ → Bool
+belongs boundary First k = ltb k boundary
+belongs boundary Second k = not (ltb k boundary)
+
+-- of the numbers that sit in a lane's scheduler, those that belong there
+abbrev pub in_lane : ℕ → Lane → (ℕ → Bool) → ℕ → Bool
+in_lane boundary lane sits = among (belongs boundary lane) sits
 
 some_waits : (n : ℕ) (waits : ℕ → Bool) (k : ℕ) → k < n → waits k ≡ true → some_below n waits ≡ true
 unfolding some_below
@@ -50,6 +58,17 @@ module _ (b : ℕ) (first second : ℕ → Bool) where
     none_below : some_below b (both b first second) ≡ false
     none_below = none_waits b (both b first second) (λ k l. only k ∙ and_left _ _ (not_from_true _ (lt-ltb k b l)))
 
+    -- then a take from the second lane is one from both
+    served_second : (first' second' : ℕ → Bool) → ((k : ℕ) → in_lane b First first' k ≡ in_lane b First first k) → (r : Option ℕ) → Takes (in_lane b Second second) (in_lane b Second second') r → Takes (both b first second) (both b first' second') r
+    served_second first' second' kept r t = at r t
+      where
+        only' : (k : ℕ) → both b first' second' k ≡ in_lane b Second second' k
+        only' k = either (ltb k b) (first' k) (second' k) ∙ ap (λ t. t || in_lane b Second second' k) (kept k ∙ none k)
+
+        at : (r : Option ℕ) → Takes (in_lane b Second second) (in_lane b Second second') r → Takes (both b first second) (both b first' second') r
+        at None (h, e) = ((λ k. only k ∙ h k), (λ k. only' k ∙ e k ∙ sym (only k)))
+        at (Some row) (w, e) = (only row ∙ w, λ k. only' k ∙ e k ∙ sym (ap (λ t. not (eqb k row) && t) (only k)))
+
     lane_second : Bounded second → (second' : ℕ → Bool) (r : Option ℕ) → Takes (in_lane b Second second) (in_lane b Second second') r → lane_answered b r ≡ lane_served b (both b first second)
     lane_second l second' None (h, e) =
         sym (cond-false (some_below b (both b first second)) _ _ none_below ∙ cond-false (some_below 1024 (both b first second)) _ _ (none_waits 1024 _ (λ k i. only k ∙ h k)))
@@ -58,21 +77,18 @@ module _ (b : ℕ) (first second : ℕ → Bool) where
         ap Some (cond-false (ltb row b) First Second (not-true _ p.0))
         ∙ sym (cond-false (some_below b (both b first second)) _ _ none_below ∙ cond-true (some_below 1024 (both b first second)) _ _ (some_waits 1024 _ row (l row p.1) (only row ∙ w)))
 
--- a take in turn serves the first lane first
-module _ {A B : Type 0} (first : A → ℕ → Bool) (second : B → ℕ → Bool) (before after : Lanes A B) (l : Bounded (second before.second)) where
-  of_first : after.boundary ≡ before.boundary → (row : ℕ) → TakesFirst first second before after (Some row) → after.second ≡ before.second → LaneTakes first second before after (Some row)
-  of_first boundary row t same = record { boundary = boundary; lane = lane_first before.boundary _ _ row t.0; second_stays = λ _. same }
+-- a take that turns to the second lane only where none of the first waits
+module _ {A B : Type 0} (first : A → ℕ → Bool) (second : B → ℕ → Bool) (before : Lanes A B) (after_first : A) where
+  pub of_first : (row : ℕ) → Takes (in_lane before.boundary First (first before.first)) (in_lane before.boundary First (first after_first)) (Some row) → LaneTakes first second before (record { first = after_first; second = before.second; boundary = before.boundary }) (Some row)
+  of_first row t = record { boundary = refl; lane = lane_first before.boundary _ _ row t.0; second_stays = λ _. refl }
 
-  of_second : after.boundary ≡ before.boundary → TakesFirst first second before after None → (r : Option ℕ) → TakesSecond first second before after r → LaneTakes first second before after r
-  of_second boundary f r t = record {
-    boundary = boundary;
-    lane = lane_second before.boundary _ _ f.0 l _ r t;
-    second_stays = λ y. absurd (both_ways _ (none_below before.boundary _ _ f.0) y);
-  }
+  module _ (after_second : B) (f : Takes (in_lane before.boundary First (first before.first)) (in_lane before.boundary First (first after_first)) None) (r : Option ℕ) (t : Takes (in_lane before.boundary Second (second before.second)) (in_lane before.boundary Second (second after_second)) r) where
+    pub takes_second : Takes (in_lanes first second before) (in_lanes first second (record { first = after_first; second = after_second; boundary = before.boundary })) r
+    takes_second = served_second before.boundary _ _ f.0 _ _ f.1 r t
 
-  pub in_turn : (r : Option ℕ) → InTurn first second before after r → LaneTakes first second before after r
-  in_turn r t =
-      elim t.turn [
-        | inl (row, e, t', same) ↦ subst (LaneTakes first second before after) (sym e) (of_first t.boundary row t' same)
-        | inr (f, t') ↦ of_second t.boundary f r t'
-      ]
+    pub of_second : Bounded (second before.second) → LaneTakes first second before (record { first = after_first; second = after_second; boundary = before.boundary }) r
+    of_second l = record {
+      boundary = refl;
+      lane = lane_second before.boundary _ _ f.0 l _ r t;
+      second_stays = λ y. absurd (both_ways _ (none_below before.boundary _ _ f.0) y);
+    }
