@@ -1,10 +1,12 @@
 -- Lists of marks.
 use Rattle.std.specs.Prelude.{◌≡◌, ℕ, zero, suc, ◌+◌, ◌<◌, Bool, true, false, cond, not, ◌&&◌, ◌||◌, List, length, replicate, ◌==◌, slice_set, nat_lt, Some, refl}
-use Rattle.std.proofs.Common.{sym, ap, ◌∙◌, inl, inr, arith}
-use Rattle.std.proofs.lemmas.Bool.{both_ways, cases_eq, cases_lt, or_left, eq-eqb, ne_eqb}
+use Rattle.std.proofs.Common.{ap, ◌∙◌, inl, inr, arith}
+use Rattle.std.proofs.lemmas.Bool.{both_ways, cases_lt}
 use Rattle.std.proofs.lemmas.List.Sums.{count_by-le-length, sum_by-set}
-use Rattle.std.proofs.lemmas.List.{length-set, get_or_past, get_or-set_same, get_or-set_other}
+use Rattle.std.proofs.lemmas.List.{length-set, get_or_past, get_or-set_other}
 use Rattle.std.proofs.Math.Bool.{and_comm, and_assoc}
+use Rattle.std.proofs.lemmas.Grind.{common_steps}
+use Rattle.std.proofs.lemmas.Bool.Decides.{nat_tests}
 use Rattle.model.specs.Waiting.{Takes}
 use Rattle.schedulers.specs.Bounds.{below_1024, bounded_below}
 use Rattle.schedulers.specs.Marks.{marked, tally}
@@ -37,18 +39,10 @@ pub tally_room : (marks : List Bool) (k : ℕ) → k < length marks → marked m
 tally_room marks k l e = omega (arith, tally_more marks k l e, count_by-le-length (λ set. set) (slice_set marks k true), length-set marks k true)
 
 pub marked_set : (marks : List Bool) (k : ℕ) → k < length marks → (j : ℕ) → marked (slice_set marks k true) j ≡ (j == k || marked marks j)
-marked_set marks k l j =
-    elim (cases_eq j k) [
-      | inl e ↦ ap (marked (slice_set marks k true)) e ∙ get_or-set_same marks k true false l ∙ sym (or_left (j == k) (marked marks j) (eq-eqb j k e))
-      | inr d ↦ get_or-set_other marks k j true false d ∙ sym (ap (λ t. t || marked marks j) (ne_eqb j k d))
-    ]
+marked_set marks k l j = grind (arith, common_steps, nat_tests, get_or-set_other marks k j true false)
 
 pub marked_unset : (marks : List Bool) (k : ℕ) → k < length marks → (j : ℕ) → marked (slice_set marks k false) j ≡ (not (j == k) && marked marks j)
-marked_unset marks k l j =
-    elim (cases_eq j k) [
-      | inl e ↦ ap (marked (slice_set marks k false)) e ∙ get_or-set_same marks k false false l ∙ sym (ap (λ t. not t && marked marks j) (eq-eqb j k e))
-      | inr d ↦ get_or-set_other marks k j false false d ∙ sym (ap (λ t. not t && marked marks j) (ne_eqb j k d))
-    ]
+marked_unset marks k l j = grind (arith, common_steps, nat_tests, get_or-set_other marks k j false false)
 
 -- a waiting number is taken: its mark goes
 pub unmarked : (marks : List Bool) (k : ℕ) → length marks ≡ 1024 → below_1024 (marked marks) k ≡ true → Takes (below_1024 (marked marks)) (below_1024 (marked (slice_set marks k false))) (Some k)
