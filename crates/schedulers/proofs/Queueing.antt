@@ -1,9 +1,11 @@
 -- Lines that stand in a circle of places, with marks for the numbers in them.
-use Rattle.std.proofs.Common.{◌≡◌, ℕ, zero, suc, ◌+◌, ◌-◌, ◌%◌, ◌<◌, Bool, true, false, not, ◌&&◌, ◌||◌, eqb, ltb, ◌≢◌, List, [], ◌∷◌, ◌++◌, length, get_or, set, Some, sym, refl, ap, ◌∙◌, subst, inl, inr, arith}
+use Rattle.std.proofs.Common.{◌≡◌, ℕ, zero, suc, ◌+◌, ◌-◌, ◌%◌, ◌<◌, Bool, true, false, not, ◌&&◌, ◌||◌, eqb, ltb, ◌≢◌, List, [], ◌∷◌, ◌++◌, length, get_or, set, Some, sym, refl, ap, ◌∙◌, subst, arith}
 use Rattle.std.proofs.lemmas.List.{get_or-set_same, get_or-set_other, length-set}
 use Rattle.std.proofs.lemmas.Option.{none-some, same_Some}
 use Rattle.std.proofs.Math.Bool.{or_comm, or_assoc}
-use Rattle.std.proofs.lemmas.Bool.{and_from, and_parts, ltb-true, not-true, and_left, and_right, or_left, or_parts, or_from, eqb-false, eq-eqb, ne_eqb, lt-ltb, not_from_true, cond-true, cases_eq}
+use Rattle.std.proofs.lemmas.Bool.{and_parts, ltb-true, not-true, or_left, or_parts, or_from, eqb-false, eq-eqb, ne_eqb, cond-true}
+use Rattle.std.proofs.lemmas.Grind.{common_steps}
+use Rattle.std.proofs.lemmas.Bool.Decides.{nat_tests}
 use Rattle.model.specs.Refusals.{some_twice}
 use Rattle.model.specs.Rows.{elem}
 use Rattle.model.specs.Waiting.{Wakes, Takes}
@@ -51,22 +53,11 @@ twice_push k (i ∷ is) n o =
 
 -- of a number that goes to the end of a line: it waits then, as do those that waited
 wakes_joined : (line : List ℕ) (row : ℕ) → row < 1024 → (k : ℕ) → in_line (line ++ (row ∷ [])) k ≡ (eqb k row || in_line line k)
-wakes_joined line row l k =
-    ap (λ t. ltb k 1024 && t) (elem_push k row line)
-    ∙ elim (cases_eq k row) [
-      | inl e ↦ and_from _ _ (ap (λ j. ltb j 1024) e ∙ lt-ltb row 1024 l) (or_left _ _ (eq-eqb k row e)) ∙ sym (or_left _ _ (eq-eqb k row e))
-      | inr d ↦ ap (λ t. ltb k 1024 && (t || elem k line)) (ne_eqb k row d) ∙ sym (ap (λ t. t || in_line line k) (ne_eqb k row d))
-    ]
+wakes_joined line row l k = grind (arith, common_steps, nat_tests, elem_push k row line)
 
 -- of the first of a line, where none stands twice: it waited, and no longer does
 takes_served : (row : ℕ) (rest : List ℕ) → row < 1024 → elem row rest ≡ false → Takes (in_line (row ∷ rest)) (in_line rest) (Some row)
-takes_served row rest l once = (
-  and_from _ _ (lt-ltb row 1024 l) (or_left _ _ (eq-eqb row row refl)),
-  λ k. elim (cases_eq k row) [
-    | inl e ↦ and_right _ _ (ap (λ j. elem j rest) e ∙ once) ∙ sym (and_left _ _ (not_from_true _ (eq-eqb k row e)))
-    | inr d ↦ sym (ap (λ t. not t && (ltb k 1024 && (t || elem k rest))) (ne_eqb k row d))
-  ],
-)
+takes_served row rest l once = (grind (arith, common_steps, nat_tests), λ k. grind (arith, common_steps, nat_tests))
 
 module _ (order : List ℕ) (start len : ℕ) (waiting : List Bool) (q : Sound order start len waiting) where
   -- a number that does not wait yet is put at the place after the line
@@ -127,11 +118,7 @@ module _ (order : List ℕ) (start len : ℕ) (waiting : List Bool) (q : Sound o
     parts = or_parts _ _ (sym (ap some_twice whole) ∙ q.once)
 
     gone : (k : ℕ) → (not (eqb k row) && marked waiting k) ≡ elem k (line_of order (after start) (len - 1))
-    gone k =
-        elim (cases_eq k row) [
-          | inl e ↦ and_left _ _ (not_from_true _ (eq-eqb k _ e)) ∙ sym (ap (λ j. elem j (line_of order (after start) (len - 1))) e ∙ parts.0)
-          | inr d ↦ ap (λ t. not t && marked waiting k) (ne_eqb k _ d) ∙ q.members k ∙ ap (elem k) whole ∙ ap (λ t. t || elem k (line_of order (after start) (len - 1))) (ne_eqb k _ d)
-        ]
+    gone k = grind (arith, common_steps, nat_tests, parts.0, q.members k, ap (elem k) whole)
 
     pub sound_served : Sound order (after start) (len - 1) (set waiting row false)
     sound_served = record {

@@ -1,6 +1,8 @@
 -- Why a queue gives the number that has waited longest.
 use Rattle.std.proofs.Common.{◌≡◌, ℕ, suc, ◌<◌, Bool, true, false, cond, not, ◌&&◌, ◌||◌, eqb, ltb, ◌⊎◌, List, [], ◌∷◌, ◌++◌, length, Some, None, sym, refl, ap, ◌∙◌, subst, inl, inr, arith}
-use Rattle.std.proofs.lemmas.Bool.{and_parts, and_from, and_left, and_right, and_cases, or_cases, or_left, or_right, eqb-true, eq-eqb, ne_eqb, not-true, not-false, not_from_true, not_from_false, cond-true, cond-false, cases_eq, cases_Bool, false≢true}
+use Rattle.std.proofs.lemmas.Bool.{and_parts, and_from, and_left, and_right, or_cases, or_right, eqb-true, eq-eqb, ne_eqb, not-true, not_from_true, not_from_false, cond-true, cond-false, cases_eq, cases_Bool, false≢true}
+use Rattle.std.proofs.lemmas.Grind.{common_steps}
+use Rattle.std.proofs.lemmas.Bool.Decides.{nat_tests}
 use Rattle.model.specs.Rows.{elem}
 use Rattle.model.specs.Waiting.{NoneWaits}
 use Rattle.model.proofs.Members.{in_here, in_more}
@@ -60,11 +62,7 @@ module _ (line : List ℕ) (waits : ℕ → Bool) (since : ℕ → ℕ) (calls :
 
     joined : (k : ℕ) → (eqb k row || elem k line) ≡ waits' k
     unfolding waits'
-    joined k =
-        elim (cases_eq k row) [
-          | inl e ↦ or_left _ _ (eq-eqb k row e) ∙ sym (or_left _ _ (and_from _ _ (eq-eqb k row e) (ap (λ j. ltb j 1024) e ∙ (and_parts (ltb row 1024) _ goes).0)))
-          | inr d ↦ ap (λ t. t || elem k line) (ne_eqb k row d) ∙ h.members k ∙ sym (ap (λ t. (t && ltb k 1024) || waits k) (ne_eqb k row d))
-        ]
+    joined k = grind (arith, common_steps, nat_tests, h.members k, goes)
 
     kept_new : Kept (line ++ (row ∷ [])) waits' since' (suc calls)
     kept_new = record {
@@ -79,14 +77,7 @@ module _ (line : List ℕ) (waits : ℕ → Bool) (since : ℕ → ℕ) (calls :
   module _ (stays : (ltb row 1024 && not (elem row line)) ≡ false) where
     stayed : (k : ℕ) → elem k line ≡ waits' k
     unfolding waits'
-    stayed k =
-        h.members k ∙ idle (eqb k row && ltb k 1024) (waits k) (elim (cases_eq k row) [
-          | inr d ↦ inl (and_left _ _ (ne_eqb k row d))
-          | inl e ↦ elim (and_cases (ltb row 1024) (not (elem row line)) stays) [
-            | inl l ↦ inl (and_right (eqb k row) _ (ap (λ j. ltb j 1024) e ∙ l))
-            | inr n ↦ inr (sym (h.members k) ∙ ap (λ j. elem j line) e ∙ not-false _ n)
-          ]
-        ])
+    stayed k = grind (arith, common_steps, nat_tests, h.members k, stays)
 
     kept_old : Kept line waits' since' (suc calls)
     kept_old = record {
