@@ -1,6 +1,8 @@
 -- Why the first lane is served first.
 use Rattle.std.proofs.Common.{◌≡◌, ℕ, zero, suc, ◌<◌, Bool, true, false, cond, not, ◌&&◌, ◌||◌, eqb, ltb, Some, None, Option, sym, refl, ap, ◌∙◌, inl, inr, arith}
-use Rattle.std.proofs.lemmas.Bool.{and_parts, or_left, or_right, or_from, lt-ltb, ltb-true, not-true, not_from_true, and_left, both_ways, cond-true, cond-false, cases_eq}
+use Rattle.std.proofs.lemmas.Bool.{and_parts, or_left, or_right, or_from, lt-ltb, not_from_true, and_left, both_ways, cases_eq}
+use Rattle.std.proofs.lemmas.Grind.{common_steps}
+use Rattle.std.proofs.lemmas.Bool.Decides.{nat_tests}
 use Rattle.model.specs.Waiting.{Bounded, NoneWaits, Takes}
 use Rattle.schedulers.specs.Lanes.{Lane, First, Second, among, some_below, lane_served, lane_answered, in_lanes, LaneTakes}
 use Rattle.schedulers.specs.declared.lanes.Lanes.{Lanes}
@@ -46,9 +48,7 @@ module _ (b : ℕ) (first second : ℕ → Bool) where
     low = (and_parts (ltb row b) (first row) waits).0
 
     lane_first : lane_answered b (Some row) ≡ lane_served b (both b first second)
-    lane_first =
-        ap Some (cond-true (ltb row b) First Second low)
-        ∙ sym (cond-true (some_below b (both b first second)) _ _ (some_waits b (both b first second) row (ltb-true row b low) (apart row ∙ or_left _ _ waits)))
+    lane_first = grind (arith, common_steps, nat_tests, waits, apart row, some_waits b (both b first second) row)
 
   -- none of the first lane waits
   module _ (none : NoneWaits (in_lane b First first)) where
@@ -70,12 +70,8 @@ module _ (b : ℕ) (first second : ℕ → Bool) where
         at (Some row) (w, e) = (only row ∙ w, λ k. only' k ∙ e k ∙ sym (ap (λ t. not (eqb k row) && t) (only k)))
 
     lane_second : Bounded second → (second' : ℕ → Bool) (r : Option ℕ) → Takes (in_lane b Second second) (in_lane b Second second') r → lane_answered b r ≡ lane_served b (both b first second)
-    lane_second l second' None (h, e) =
-        sym (cond-false (some_below b (both b first second)) _ _ none_below ∙ cond-false (some_below 1024 (both b first second)) _ _ (none_waits 1024 _ (λ k i. only k ∙ h k)))
-    lane_second l second' (Some row) (w, e) =
-        let p = and_parts (not (ltb row b)) (second row) w in
-        ap Some (cond-false (ltb row b) First Second (not-true _ p.0))
-        ∙ sym (cond-false (some_below b (both b first second)) _ _ none_below ∙ cond-true (some_below 1024 (both b first second)) _ _ (some_waits 1024 _ row (l row p.1) (only row ∙ w)))
+    lane_second l second' None (h, e) = grind (arith, common_steps, nat_tests, none_below, none_waits 1024 (both b first second) (λ k i. only k ∙ h k))
+    lane_second l second' (Some row) (w, e) = grind (arith, common_steps, nat_tests, w, none_below, l row, some_waits 1024 (both b first second) row (l row (and_parts (not (ltb row b)) (second row) w).1) (only row ∙ w))
 
 -- a take that turns to the second lane only where none of the first waits
 module _ {A B : Type 0} (first : A → ℕ → Bool) (second : B → ℕ → Bool) (before : Lanes A B) (after_first : A) where
