@@ -1,8 +1,14 @@
 -- Lists of marks.
-use Rattle.std.specs.Prelude.{◌≡◌, ℕ, zero, suc, ◌+◌, ◌<◌, ◌≤◌, Bool, true, false, not, ◌&&◌, ◌||◌, List, [], ◌∷◌, length, replicate, ◌==◌, slice_set, refl}
-use Rattle.std.proofs.Common.{sym, ap, ◌∙◌, inl, inr, arith}
-use Rattle.std.proofs.lemmas.Bool.{cases_eq, or_left, eq-eqb, ne_eqb, true≢false, false≢true}
-use Rattle.std.proofs.lemmas.List.{get_or-set_same, get_or-set_other}
+use Rattle.std.specs.Prelude.{◌≡◌, ℕ, zero, suc, ◌+◌, ◌<◌, Bool, true, false, cond, not, ◌&&◌, ◌||◌, List, length, replicate, ◌==◌, slice_set, nat_lt, Some, refl}
+use Rattle.std.proofs.Common.{ap, ◌∙◌, inl, inr, arith}
+use Rattle.std.proofs.lemmas.Bool.{both_ways, cases_lt}
+use Rattle.std.proofs.lemmas.List.Sums.{count_by-le-length, sum_by-set}
+use Rattle.std.proofs.lemmas.List.{length-set, get_or_past, get_or-set_other}
+use Rattle.std.proofs.Math.Bool.{and_comm, and_assoc}
+use Rattle.std.proofs.lemmas.Grind.{common_steps}
+use Rattle.std.proofs.lemmas.Bool.Decides.{nat_tests}
+use Rattle.model.specs.Waiting.{Takes}
+use Rattle.schedulers.specs.Bounds.{below_1024, bounded_below}
 use Rattle.schedulers.specs.Marks.{marked, tally}
 
 -- where no mark was set, none is
@@ -11,49 +17,37 @@ none_marked zero k = refl
 none_marked (suc n) zero = refl
 none_marked (suc n) (suc k) = none_marked n k
 
-pub none_set : (n : ℕ) → tally (replicate n false) ≡ 0
-none_set zero = refl
-none_set (suc n) = none_set n
+-- a marked number stands within the list
+pub marked_within : (marks : List Bool) (n k : ℕ) → length marks ≡ n → marked marks k ≡ true → k < n
+marked_within marks n k e w =
+    elim (cases_lt k n) [ inl h ↦ h | inr h ↦ absurd (both_ways (marked marks k) (get_or_past marks k false (omega arith)) w) ]
 
 -- one mark more
 pub tally_more : (marks : List Bool) (k : ℕ) → k < length marks → marked marks k ≡ false → tally (slice_set marks k true) ≡ tally marks + 1
-tally_more [] k l e = absurd (omega arith)
-tally_more (true ∷ marks) zero l e = absurd (true≢false e)
-tally_more (false ∷ marks) zero l e = omega arith
-tally_more (true ∷ marks) (suc k) l e = omega (arith, tally_more marks k (omega arith) e)
-tally_more (false ∷ marks) (suc k) l e = tally_more marks k (omega arith) e
+tally_more marks k l e =
+    let step = rw e at (sum_by-set (λ set. cond set 1 0) marks k true false l) in
+    omega arith
 
 -- one mark fewer
-pub tally_fewer : (marks : List Bool) (k : ℕ) → marked marks k ≡ true → tally (slice_set marks k false) + 1 ≡ tally marks
-tally_fewer [] k e = absurd (false≢true e)
-tally_fewer (true ∷ marks) zero e = omega arith
-tally_fewer (false ∷ marks) zero e = absurd (false≢true e)
-tally_fewer (true ∷ marks) (suc k) e = omega (arith, tally_fewer marks k e)
-tally_fewer (false ∷ marks) (suc k) e = tally_fewer marks k e
-
-tally_most : (marks : List Bool) → tally marks ≤ length marks
-tally_most [] = omega arith
-tally_most (true ∷ marks) = omega (arith, tally_most marks)
-tally_most (false ∷ marks) = omega (arith, tally_most marks)
+pub tally_fewer : (marks : List Bool) (k : ℕ) → k < length marks → marked marks k ≡ true → tally (slice_set marks k false) + 1 ≡ tally marks
+tally_fewer marks k l e =
+    let step = rw e at (sum_by-set (λ set. cond set 1 0) marks k false false l) in
+    omega arith
 
 -- where a mark is not set, not all are
 pub tally_room : (marks : List Bool) (k : ℕ) → k < length marks → marked marks k ≡ false → tally marks < length marks
-tally_room [] k l e = absurd (omega arith)
-tally_room (true ∷ marks) zero l e = absurd (true≢false e)
-tally_room (false ∷ marks) zero l e = omega (arith, tally_most marks)
-tally_room (true ∷ marks) (suc k) l e = omega (arith, tally_room marks k (omega arith) e)
-tally_room (false ∷ marks) (suc k) l e = omega (arith, tally_room marks k (omega arith) e)
+tally_room marks k l e = omega (arith, tally_more marks k l e, count_by-le-length (λ set. set) (slice_set marks k true), length-set marks k true)
 
 pub marked_set : (marks : List Bool) (k : ℕ) → k < length marks → (j : ℕ) → marked (slice_set marks k true) j ≡ (j == k || marked marks j)
-marked_set marks k l j =
-    elim (cases_eq j k) [
-      | inl e ↦ ap (marked (slice_set marks k true)) e ∙ get_or-set_same marks k true false l ∙ sym (or_left (j == k) (marked marks j) (eq-eqb j k e))
-      | inr d ↦ get_or-set_other marks k j true false d ∙ sym (ap (λ t. t || marked marks j) (ne_eqb j k d))
-    ]
+marked_set marks k l j = grind (arith, common_steps, nat_tests, get_or-set_other marks k j true false)
 
 pub marked_unset : (marks : List Bool) (k : ℕ) → k < length marks → (j : ℕ) → marked (slice_set marks k false) j ≡ (not (j == k) && marked marks j)
-marked_unset marks k l j =
-    elim (cases_eq j k) [
-      | inl e ↦ ap (marked (slice_set marks k false)) e ∙ get_or-set_same marks k false false l ∙ sym (ap (λ t. not t && marked marks j) (eq-eqb j k e))
-      | inr d ↦ get_or-set_other marks k j false false d ∙ sym (ap (λ t. not t && marked marks j) (ne_eqb j k d))
-    ]
+marked_unset marks k l j = grind (arith, common_steps, nat_tests, get_or-set_other marks k j false false)
+
+-- a waiting number is taken: its mark goes
+pub unmarked : (marks : List Bool) (k : ℕ) → length marks ≡ 1024 → below_1024 (marked marks) k ≡ true → Takes (below_1024 (marked marks)) (below_1024 (marked (slice_set marks k false))) (Some k)
+unmarked marks k size w = (
+  w,
+  λ j. ap (λ t. nat_lt j 1024 && t) (marked_unset marks k (omega (arith, size, bounded_below (marked marks) k w)) j)
+      ∙ grind (arith, and_comm, and_assoc),
+)

@@ -1,22 +1,26 @@
 -- Lines that stand in a circle of places, with marks for the numbers in them.
-use Rattle.std.proofs.Common.{◌≡◌, ℕ, zero, suc, ◌+◌, ◌-◌, ◌%◌, ◌<◌, ◌≤◌, Bool, true, false, not, ◌&&◌, ◌||◌, eqb, ltb, ◌≢◌, List, [], ◌∷◌, ◌++◌, length, get_or, set, Some, Option, sym, refl, ap, ◌∙◌, inl, inr, arith}
+use Rattle.std.proofs.Common.{◌≡◌, ℕ, zero, suc, ◌+◌, ◌-◌, ◌%◌, ◌<◌, Bool, true, false, not, ◌&&◌, ◌||◌, eqb, ltb, ◌≢◌, List, [], ◌∷◌, ◌++◌, length, get_or, set, Some, sym, refl, ap, ◌∙◌, subst, arith}
 use Rattle.std.proofs.lemmas.List.{get_or-set_same, get_or-set_other, length-set}
-use Rattle.std.proofs.lemmas.Bool.{and_from, and_parts, ltb-true, not-true, and_left, or_left, or_parts, or_from, eqb-false, eq-eqb, ne_eqb, lt-ltb, not_from_true, not_from_false, cond-true, cases_eq}
+use Rattle.std.proofs.lemmas.Option.{none-some, same_Some}
+use Rattle.std.proofs.Math.Bool.{or_comm, or_assoc}
+use Rattle.std.proofs.lemmas.Bool.{and_parts, ltb-true, not-true, or_left, or_parts, or_from, eqb-false, eq-eqb, ne_eqb, cond-true}
+use Rattle.std.proofs.lemmas.Grind.{common_steps}
+use Rattle.std.proofs.lemmas.Bool.Decides.{nat_tests}
 use Rattle.model.specs.Refusals.{some_twice}
 use Rattle.model.specs.Rows.{elem}
-use Rattle.schedulers.specs.Marks.{marked, tally}
+use Rattle.model.specs.Waiting.{Wakes, Takes}
+use Rattle.schedulers.specs.Marks.{marked}
 use Rattle.schedulers.specs.Rings.{after}
-use Rattle.schedulers.specs.Queues.{line_of, joins, serves}
-use Rattle.schedulers.specs.declared.queue.Queue.{Queue}
-use Rattle.schedulers.specs.Bounds.{marked_within}
-use Rattle.schedulers.proofs.Marking.{marked_set, marked_unset, tally_more, tally_fewer, tally_room}
+use Rattle.schedulers.specs.Queues.{line_of, in_line, joins, serves, Sound}
+use Rattle.schedulers.proofs.Marking.{marked_within, marked_set, marked_unset, tally_more, tally_fewer, tally_room}
 
--- a line that is not empty begins with what stands at its start
-line_first : (order : List ℕ) (start len : ℕ) → (len ≡ 0 → ⊥) → line_of order start len ≡ get_or order start 0 ∷ line_of order (after start) (len - 1)
-line_first order start zero h = absurd (h refl)
-line_first order start (suc n) h =
-    let e : n ≡ suc n - 1 = omega arith in
-    ap (λ m. get_or order start 0 ∷ line_of order (after start) m) e
+-- where a line serves a number, it stands at the start, and the rest begins at the next place
+line_first : (order : List ℕ) (start len row : ℕ) → (serves (line_of order start len)).0 ≡ Some row → (0 < len) × (line_of order start len ≡ row ∷ line_of order (after start) (len - 1))
+line_first order start zero row e = absurd (none-some row e)
+line_first order start (suc n) row e =
+    let first : get_or order start 0 ≡ row = same_Some _ _ e in
+    let fewer : n ≡ suc n - 1 = omega arith in
+    (omega arith, cc)
 
 -- a number that is put at the place after a line stands at its end
 line_push : (order : List ℕ) (row place : ℕ) → length order ≡ 1024 → (len start : ℕ) → start < 1024 → len < 1024 → place ≡ (start + len) % 1024 → line_of (set order place row) start (len + 1) ≡ line_of order start len ++ (row ∷ [])
@@ -36,13 +40,7 @@ line_push order row place size (suc n) start s l e =
 -- what stands in a line with one more at its end
 pub elem_push : (j k : ℕ) (ks : List ℕ) → elem j (ks ++ (k ∷ [])) ≡ (eqb j k || elem j ks)
 elem_push j k [] = refl
-elem_push j k (i ∷ is) = ap (λ t. eqb j i || t) (elem_push j k is) ∙ swapped (eqb j i) (eqb j k) (elem j is)
-  where
-    swapped : (a b t : Bool) → (a || (b || t)) ≡ (b || (a || t))
-    swapped true true t = refl
-    swapped true false t = refl
-    swapped false true t = refl
-    swapped false false t = refl
+elem_push j k (i ∷ is) = ap (λ t. eqb j i || t) (elem_push j k is) ∙ grind (arith, or_comm, or_assoc)
 
 -- a number that does not stand in a line goes to its end, and still none stands there twice
 twice_push : (k : ℕ) (ks : List ℕ) → elem k ks ≡ false → some_twice ks ≡ false → some_twice (ks ++ (k ∷ [])) ≡ false
@@ -53,27 +51,25 @@ twice_push k (i ∷ is) n o =
     let apart : eqb i k ≡ false = ne_eqb i k (λ e. eqb-false k i here.0 (sym e)) in
     or_from (elem i (is ++ (k ∷ []))) (some_twice (is ++ (k ∷ []))) (elem_push i k is ∙ or_from (eqb i k) (elem i is) apart rest.0) (twice_push k is here.1 rest.1)
 
--- what holds of a queue, over its parts
-pub record Sound (order : List ℕ) (start len : ℕ) (waiting : List Bool) : Type 0 where
-  pub places : length order ≡ 1024
-  pub marks : length waiting ≡ 1024
-  pub inside : start < 1024
-  pub short : len ≤ 1024
-  pub members : (k : ℕ) → marked waiting k ≡ elem k (line_of order start len)
-  pub once : some_twice (line_of order start len) ≡ false
-  pub count : tally waiting ≡ len
+-- of a number that goes to the end of a line: it waits then, as do those that waited
+wakes_joined : (line : List ℕ) (row : ℕ) → row < 1024 → (k : ℕ) → in_line (line ++ (row ∷ [])) k ≡ (eqb k row || in_line line k)
+wakes_joined line row l k = grind (arith, common_steps, nat_tests, elem_push k row line)
 
-pub sound : (q : Queue) → Sound q.order q.start q.len q.waiting
-sound q = record { places = q.places; marks = q.marks; inside = q.inside; short = q.short; members = q.members; once = q.once; count = q.count }
+-- of the first of a line, where none stands twice: it waited, and no longer does
+takes_served : (row : ℕ) (rest : List ℕ) → row < 1024 → elem row rest ≡ false → Takes (in_line (row ∷ rest)) (in_line rest) (Some row)
+takes_served row rest l once = (grind (arith, common_steps, nat_tests), λ k. grind (arith, common_steps, nat_tests))
 
 module _ (order : List ℕ) (start len : ℕ) (waiting : List Bool) (q : Sound order start len waiting) where
   -- a number that does not wait yet is put at the place after the line
-  module _ (row place : ℕ) (is-new : (ltb row 1024 && not (marked waiting row)) ≡ true) (e : place ≡ (start + len) % 1024) where
-    pub low : row < 1024
+  module _ (row : ℕ) (is-new : (ltb row 1024 && not (elem row (line_of order start len))) ≡ true) where
+    low : row < 1024
     low = ltb-true row 1024 (and_parts (ltb row 1024) _ is-new).0
 
+    absent : elem row (line_of order start len) ≡ false
+    absent = not-true _ (and_parts (ltb row 1024) _ is-new).1
+
     new : marked waiting row ≡ false
-    new = not-true _ (and_parts (ltb row 1024) _ is-new).1
+    new = q.members row ∙ absent
 
     within : row < length waiting
     within = omega (arith, low, q.marks)
@@ -81,69 +77,59 @@ module _ (order : List ℕ) (start len : ℕ) (waiting : List Bool) (q : Sound o
     room : len < 1024
     room = omega (arith, q.marks, q.count, tally_room waiting row within new)
 
-    absent : elem row (line_of order start len) ≡ false
-    absent = sym (q.members row) ∙ new
+    pushed : line_of (set order ((start + len) % 1024) row) start (len + 1) ≡ line_of order start len ++ (row ∷ [])
+    pushed = line_push order row _ q.places len start q.inside room refl
 
-    pushed : line_of (set order place row) start (len + 1) ≡ line_of order start len ++ (row ∷ [])
-    pushed = line_push order row place q.places len start q.inside room e
-
-    pub joined : line_of (set order place row) start (len + 1) ≡ joins (line_of order start len) row
-    joined = pushed ∙ sym (cond-true _ _ _ (and_from (ltb row 1024) _ (lt-ltb row 1024 low) (not_from_false _ absent)))
-
-    pub now_waiting : (k : ℕ) → marked (set waiting row true) k ≡ (eqb k row || marked waiting k)
-    now_waiting = marked_set waiting row within
-
-    pub sound_joined : Sound (set order place row) start (len + 1) (set waiting row true)
+    pub sound_joined : Sound (set order ((start + len) % 1024) row) start (len + 1) (set waiting row true)
     sound_joined = record {
-      places = length-set order place row ∙ q.places;
+      places = length-set order _ row ∙ q.places;
       marks = length-set waiting row true ∙ q.marks;
       inside = q.inside;
       short = omega (arith, room);
-      members = λ k. now_waiting k ∙ ap (λ t. eqb k row || t) (q.members k) ∙ sym (ap (elem k) pushed ∙ elem_push k row _);
+      members = λ k. marked_set waiting row within k ∙ ap (λ t. eqb k row || t) (q.members k) ∙ sym (ap (elem k) pushed ∙ elem_push k row _);
       once = ap some_twice pushed ∙ twice_push row _ absent q.once;
       count = tally_more waiting row within new ∙ ap (λ n. n + 1) q.count;
     }
 
-  -- the number at the start is taken, and the line begins at the next place
-  module _ (some : len ≡ 0 → ⊥) (row next : ℕ) (r : row ≡ get_or order start 0) (n : next ≡ after start) where
-    rest : List ℕ
-    rest = line_of order next (len - 1)
+    pub joined : line_of (set order ((start + len) % 1024) row) start (len + 1) ≡ joins (line_of order start len) row
+    joined = pushed ∙ sym (cond-true _ _ _ is-new)
 
-    whole : line_of order start len ≡ row ∷ rest
-    unfolding rest
-    whole = line_first order start len some ∙ sym (ap (λ k. k ∷ line_of order next (len - 1)) r ∙ ap (λ place. get_or order start 0 ∷ line_of order place (len - 1)) n)
+    pub woken : Wakes row (line_of order start len) (line_of (set order ((start + len) % 1024) row) start (len + 1)) (in_line (line_of order start len)) (in_line (line_of (set order ((start + len) % 1024) row) start (len + 1))) true
+    woken = record {
+      added = λ _. (refl, λ k. ap (λ line. in_line line k) pushed ∙ wakes_joined _ row low k);
+      refused = λ h. absurd (omega (arith, low));
+    }
 
-    pub first_waits : marked waiting row ≡ true
-    first_waits = q.members row ∙ ap (elem row) whole ∙ or_left _ _ (eq-eqb row row refl)
+  -- the number that the line serves is taken
+  module _ (row : ℕ) (first : (serves (line_of order start len)).0 ≡ Some row) where
+    pub some : 0 < len
+    some = (line_first order start len row first).0
+
+    whole : line_of order start len ≡ row ∷ line_of order (after start) (len - 1)
+    whole = (line_first order start len row first).1
+
+    first_waits : marked waiting row ≡ true
+    first_waits = q.members _ ∙ ap (elem row) whole ∙ or_left _ _ (eq-eqb row row refl)
 
     pub first_low : row < 1024
-    first_low = marked_within waiting 1024 row q.marks first_waits
+    first_low = marked_within waiting 1024 _ q.marks first_waits
 
-    parts : (elem row rest ≡ false) × (some_twice rest ≡ false)
+    parts : (elem row (line_of order (after start) (len - 1)) ≡ false) × (some_twice (line_of order (after start) (len - 1)) ≡ false)
     parts = or_parts _ _ (sym (ap some_twice whole) ∙ q.once)
 
-    pub served : ◌≡◌ {A = Option ℕ × List ℕ} (Some row, line_of order next (len - 1)) (serves (line_of order start len))
-    unfolding rest
-    served = sym (ap serves whole)
+    gone : (k : ℕ) → (not (eqb k row) && marked waiting k) ≡ elem k (line_of order (after start) (len - 1))
+    gone k = grind (arith, common_steps, nat_tests, parts.0, q.members k, ap (elem k) whole)
 
-    gone : (k : ℕ) → (not (eqb k row) && marked waiting k) ≡ elem k rest
-    gone k =
-        elim (cases_eq k row) [
-          | inl e ↦ and_left _ _ (not_from_true _ (eq-eqb k row e)) ∙ sym (ap (λ j. elem j rest) e ∙ parts.0)
-          | inr d ↦ ap (λ t. not t && marked waiting k) (ne_eqb k row d) ∙ q.members k ∙ ap (elem k) whole ∙ ap (λ t. t || elem k rest) (ne_eqb k row d)
-        ]
-
-    pub still_waiting : (k : ℕ) → marked (set waiting row false) k ≡ (not (eqb k row) && marked waiting k)
-    still_waiting = marked_unset waiting row (omega (arith, first_low, q.marks))
-
-    pub sound_served : Sound order next (len - 1) (set waiting row false)
-    unfolding rest
+    pub sound_served : Sound order (after start) (len - 1) (set waiting row false)
     sound_served = record {
       places = q.places;
-      marks = length-set waiting row false ∙ q.marks;
+      marks = length-set waiting _ false ∙ q.marks;
       inside = omega arith;
       short = omega (arith, q.short);
-      members = λ k. still_waiting k ∙ gone k;
+      members = λ k. marked_unset waiting _ (omega (arith, first_low, q.marks)) k ∙ gone k;
       once = parts.1;
-      count = omega (arith, tally_fewer waiting row first_waits, q.count);
+      count = omega (arith, tally_fewer waiting _ (omega (arith, first_low, q.marks)) first_waits, q.count);
     }
+
+    pub taken : Takes (in_line (line_of order start len)) (in_line (line_of order (after start) (len - 1))) (Some row)
+    taken = subst (λ (line : List ℕ). Takes (in_line line) (in_line (line_of order (after start) (len - 1))) (Some row)) (sym whole) (takes_served _ _ first_low parts.0)

@@ -1,11 +1,20 @@
 -- Why the number that a ring seeks is the one that comes first, going round.
-use Rattle.std.proofs.Common.{◌≡◌, ℕ, zero, suc, ◌+◌, ◌-◌, ◌<◌, ◌≤◌, Bool, true, false, ◌⊎◌, Some, None, Option, sym, refl, ap, ◌∙◌, subst, inl, inr, mod-eq_of_lt, arith, MatchOption}
-use Rattle.std.proofs.lemmas.Bool.{cases_Bool, cases_lt, cases_eq, cond-true, cond-false}
+use Rattle.std.proofs.Common.{◌≡◌, ℕ, zero, suc, ◌+◌, ◌-◌, ◌<◌, ◌≤◌, Bool, true, false, ◌⊎◌, Some, None, Option, sym, refl, ap, ◌∙◌, subst, inl, inr, mod-eq_of_lt, arith, min, MatchOption}
+use Rattle.std.proofs.lemmas.Option.{none-some}
+use Rattle.std.proofs.lemmas.Bool.{cases_Bool, cases_lt, cases_eq, cond-true, cond-false, and_right, and_from, lt-ltb}
 use Rattle.model.specs.Waiting.{Bounded, NoneWaits}
-use Rattle.schedulers.specs.Rings.{after, seek, Leads, Due, ComesFirst, InOrder, RingOrder}
+use Rattle.schedulers.specs.Marks.{marked}
+use Rattle.schedulers.specs.Rings.{Round, Sound, in_round, after, seek, Leads, Due, ComesFirst, InOrder, RingOrder}
 
-some≢none : (k : ℕ) → Some k ≡ None → ⊥
-some≢none k e = let z : ◌≡◌ {A = ℕ} 0 1 = cc in omega arith
+-- what is first on a stretch of a ring, where none waits from the bound on
+pub walked : (round : Round) (bound from to : ℕ) → Sound round bound → (r : Option ℕ) → MatchOption r ((k : ℕ) → from ≤ k → k < min to bound → marked round.waiting k ≡ false) (λ i. (from ≤ i) × (i < min to bound) × (marked round.waiting i ≡ true) × ((k : ℕ) → from ≤ k → k < i → marked round.waiting k ≡ false)) → MatchOption r ((k : ℕ) → from ≤ k → k < to → in_round round k ≡ false) (λ k. Leads (in_round round) from to k)
+walked round bound from to s None h = λ k a b. and_right _ _ (elim (cases_lt k bound) [ inl l ↦ h k a (omega arith) | inr g ↦ s.quiet k g ])
+walked round bound from to s (Some i) (a, b, w, h) = record {
+  on = a;
+  below = omega arith;
+  waiting = and_from _ _ (lt-ltb i 1024 (omega (arith, s.limit))) w;
+  first = λ k p q. and_right _ _ (h k p q);
+}
 
 module _ (waits : ℕ → Bool) where
   -- a waiting number is found where the walk starts
@@ -101,6 +110,11 @@ module _ (waits : ℕ → Bool) where
         let l : k < 1024 = omega (arith, e.below) in
         (sym (sought start k s l e.waiting (inr (e.below, past h, λ j q. e.first j (omega arith) q))), e.waiting, l)
 
+    -- the stretch up to the end, or else the stretch from 0
+    pub due_in_turn : {FromZero : Type 0} (ahead r : Option ℕ) → MatchOption ahead ((j : ℕ) → start ≤ j → j < 1024 → waits j ≡ false) (λ k. Leads waits start 1024 k) → MatchOption ahead FromZero (λ k. r ≡ Some k) → (FromZero → MatchOption r ((j : ℕ) → 0 ≤ j → j < start → waits j ≡ false) (λ k. Leads waits 0 start k)) → Due waits start r
+    due_in_turn None r h p turns = due_round h r (turns p)
+    due_in_turn (Some k) r h e turns = subst (Due waits start) (sym e) (due_ahead k h)
+
     -- none waits, or one comes first
     one_comes_first : NoneWaits waits ⊎ ((k : ℕ) × (waits k ≡ true) × ComesFirst waits start k)
     one_comes_first =
@@ -119,14 +133,14 @@ module _ (waits : ℕ → Bool) where
     in_order : InOrder waits start
     in_order = record {
       found = λ k e. elim one_comes_first [
-        | inl none ↦ absurd (some≢none k (sym e ∙ missed none 1024 start))
+        | inl none ↦ absurd (none-some k (sym (missed none 1024 start) ∙ e))
         | inr (j, w, f) ↦ (let same : j ≡ k = cc (first_sought j w f, e) in
             subst (λ (i : ℕ). (waits i ≡ true) × ComesFirst waits start i) same (w, f))
       ];
       first = first_sought;
       none = λ e. elim one_comes_first [
         | inl none ↦ none
-        | inr (j, w, f) ↦ absurd (some≢none j (sym (first_sought j w f) ∙ e))
+        | inr (j, w, f) ↦ absurd (none-some j (sym e ∙ first_sought j w f))
       ];
       empty = λ none. missed none 1024 start;
     }

@@ -1,6 +1,8 @@
 -- Why a queue gives the number that has waited longest.
-use Rattle.std.proofs.Common.{◌≡◌, ℕ, suc, ◌<◌, Bool, true, false, cond, not, ◌&&◌, ◌||◌, eqb, ltb, ◌⊎◌, List, [], ◌∷◌, ◌++◌, length, Some, None, sym, refl, ap, ◌∙◌, subst, inl, inr, arith}
-use Rattle.std.proofs.lemmas.Bool.{and_parts, and_from, and_left, and_right, and_cases, or_cases, or_left, or_right, eqb-true, eq-eqb, ne_eqb, not-true, not-false, not_from_true, not_from_false, cond-true, cond-false, cases_eq, cases_Bool, false≢true}
+use Rattle.std.proofs.Common.{◌≡◌, ℕ, suc, ◌<◌, Bool, true, false, cond, not, ◌&&◌, ◌||◌, eqb, ltb, List, [], ◌∷◌, ◌++◌, length, Some, None, sym, refl, ap, ◌∙◌, subst, inl, inr, arith}
+use Rattle.std.proofs.lemmas.Bool.{and_parts, and_from, and_right, or_cases, eqb-true, eq-eqb, not-true, not_from_true, not_from_false, cond-true, cond-false, cases_Bool, false≢true}
+use Rattle.std.proofs.lemmas.Grind.{common_steps}
+use Rattle.std.proofs.lemmas.Bool.Decides.{nat_tests}
 use Rattle.model.specs.Rows.{elem}
 use Rattle.model.specs.Waiting.{NoneWaits}
 use Rattle.model.proofs.Members.{in_here, in_more}
@@ -30,11 +32,6 @@ rising_push since row (k ∷ rest) b r = (
   rising_push since row rest (λ j i. b j (in_more j k rest i)) r.1,
 )
 
--- a test that is false, or comes too late, adds nothing
-idle : (x y : Bool) → (x ≡ false) ⊎ (y ≡ true) → y ≡ (x || y)
-idle x y (inl e) = sym (ap (λ t. t || y) e)
-idle x y (inr e) = e ∙ sym (or_right x y e)
-
 -- what holds of a line after some calls: who waits in it and since when
 record Kept (line : List ℕ) (waits : ℕ → Bool) (since : ℕ → ℕ) (calls : ℕ) : Type 0 where
   members : (k : ℕ) → elem k line ≡ waits k
@@ -60,11 +57,7 @@ module _ (line : List ℕ) (waits : ℕ → Bool) (since : ℕ → ℕ) (calls :
 
     joined : (k : ℕ) → (eqb k row || elem k line) ≡ waits' k
     unfolding waits'
-    joined k =
-        elim (cases_eq k row) [
-          | inl e ↦ or_left _ _ (eq-eqb k row e) ∙ sym (or_left _ _ (and_from _ _ (eq-eqb k row e) (ap (λ j. ltb j 1024) e ∙ (and_parts (ltb row 1024) _ goes).0)))
-          | inr d ↦ ap (λ t. t || elem k line) (ne_eqb k row d) ∙ h.members k ∙ sym (ap (λ t. (t && ltb k 1024) || waits k) (ne_eqb k row d))
-        ]
+    joined k = grind (arith, common_steps, nat_tests, h.members k, goes)
 
     kept_new : Kept (line ++ (row ∷ [])) waits' since' (suc calls)
     kept_new = record {
@@ -79,14 +72,7 @@ module _ (line : List ℕ) (waits : ℕ → Bool) (since : ℕ → ℕ) (calls :
   module _ (stays : (ltb row 1024 && not (elem row line)) ≡ false) where
     stayed : (k : ℕ) → elem k line ≡ waits' k
     unfolding waits'
-    stayed k =
-        h.members k ∙ idle (eqb k row && ltb k 1024) (waits k) (elim (cases_eq k row) [
-          | inr d ↦ inl (and_left _ _ (ne_eqb k row d))
-          | inl e ↦ elim (and_cases (ltb row 1024) (not (elem row line)) stays) [
-            | inl l ↦ inl (and_right (eqb k row) _ (ap (λ j. ltb j 1024) e ∙ l))
-            | inr n ↦ inr (sym (h.members k) ∙ ap (λ j. elem j line) e ∙ not-false _ n)
-          ]
-        ])
+    stayed k = grind (arith, common_steps, nat_tests, h.members k, stays)
 
     kept_old : Kept line waits' since' (suc calls)
     kept_old = record {
@@ -106,13 +92,7 @@ module _ (line : List ℕ) (waits : ℕ → Bool) (since : ℕ → ℕ) (calls :
 kept_take : (line : List ℕ) (waits : ℕ → Bool) (since : ℕ → ℕ) (calls : ℕ) → Kept line waits since calls → Kept (serves line).1 (λ k. not (is k (serves line).0) && waits k) since (suc calls)
 kept_take [] waits since calls h = record { members = h.members; rising = tt; past = λ k i. absurd (false≢true i) }
 kept_take (row ∷ rest) waits since calls h = record {
-  members = λ k. elim (cases_eq k row) [
-    | inl e ↦ (elim (cases_Bool (elem k rest)) [
-      | inl i ↦ absurd (let a : since k ≡ since row = ap since e in omega (arith, h.rising.0 k i))
-      | inr n ↦ n ∙ sym (and_left _ _ (not_from_true _ (eq-eqb k row e)))
-    ])
-    | inr d ↦ sym (ap (λ t. t || elem k rest) (ne_eqb k row d)) ∙ h.members k ∙ sym (ap (λ t. not t && waits k) (ne_eqb k row d))
-  ];
+  members = λ k. grind (arith, common_steps, nat_tests, h.members k, h.rising.0 k);
   rising = h.rising.1;
   past = λ k i. omega (arith, h.past k (in_more k row rest i));
 }

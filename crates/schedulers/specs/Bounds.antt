@@ -1,15 +1,14 @@
 -- Why the numbers that a scheduler holds are below 1,024.
-use Rattle.std.specs.Prelude.{◌≡◌, ℕ, ◌<◌, Bool, true, false, cond, List, length}
-use Rattle.std.proofs.Common.{inl, inr, arith}
-use Rattle.std.proofs.lemmas.Bool.{both_ways, cases_lt}
-use Rattle.std.proofs.lemmas.List.{get_or_past}
+use Rattle.std.specs.Prelude.{◌≡◌, ℕ, ◌<◌, Bool, true, false, cond, ◌&&◌, nat_lt}
+use Rattle.std.proofs.lemmas.Bool.{ltb-true, and_parts}
 use Rattle.model.specs.Waiting.{Bounded}
-use Rattle.schedulers.specs.Marks.{marked}
 
--- a marked number stands within the list
-pub marked_within : (marks : List Bool) (n k : ℕ) → length marks ≡ n → marked marks k ≡ true → k < n
-marked_within marks n k e w =
-    elim (cases_lt k n) [ inl h ↦ h | inr h ↦ absurd (both_ways (marked marks k) (get_or_past marks k false (omega arith)) w) ]
+-- of some numbers, those that a scheduler can hold
+abbrev pub below_1024 : (ℕ → Bool) → ℕ → Bool
+below_1024 some k = nat_lt k 1024 && some k
+
+pub bounded_below : (some : ℕ → Bool) → Bounded (below_1024 some)
+bounded_below some k w = ltb-true k 1024 (and_parts (nat_lt k 1024) (some k) w).0
 
 -- of two bounded sets of numbers, whichever a test picks
 pub bounded_either : (first second : ℕ → Bool) → Bounded first → Bounded second → (test : ℕ → Bool) → Bounded (λ k. cond (test k) (first k) (second k))

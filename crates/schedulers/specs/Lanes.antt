@@ -1,18 +1,20 @@
 -- Two lanes, each with a scheduler: the first for the numbers below a boundary, the second for the rest.
-use Rattle.std.specs.Prelude.{◌≡◌, ℕ, zero, suc, ◌<◌, ◌≤◌, Bool, true, false, cond, not, ◌&&◌, ◌||◌, ◌⊎◌, Some, None, Option, nat_lt}
-use Rattle.model.specs.Waiting.{Wakes, Takes, NoneWaits}
-use Rattle.schedulers.specs.declared.lanes.Lane.{Lane}
-use Rattle.schedulers.specs.declared.lanes.Lane.TheVariants.{First, Second}
+use Rattle.std.specs.Prelude.{◌≡◌, ℕ, zero, suc, ◌<◌, ◌≤◌, Bool, true, false, cond, ◌&&◌, ◌||◌, Some, None, Option, nat_lt}
+use Rattle.model.specs.Waiting.{Wakes, NoneWaits}
 use Rattle.schedulers.specs.declared.lanes.Lanes.{Lanes}
 
--- whether a number belongs in a lane
-abbrev pub belongs : ℕ → Lane → ℕ → Bool
-belongs boundary First k = nat_lt k boundary
-belongs boundary Second k = not (nat_lt k boundary)
+-- the two lanes
+pub data Lane : Type 0 where
+  First : Lane
+  Second : Lane
 
--- of the numbers that sit in a lane's scheduler, those that belong there
-abbrev pub in_lane : ℕ → Lane → (ℕ → Bool) → ℕ → Bool
-in_lane boundary lane sits k = belongs boundary lane k && sits k
+-- of the numbers that sit in a scheduler, those of a lane
+abbrev pub among : (ℕ → Bool) → (ℕ → Bool) → ℕ → Bool
+among lane sits k = lane k && sits k
+
+-- the answers of a test tell which numbers are of a lane
+abbrev pub Tells : (ℕ → Bool → Type 0) → (ℕ → Bool) → Type 0
+Tells answers lane = (k : ℕ) (answer : Bool) → answers k answer → answer ≡ lane k
 
 -- whether a number below n waits
 unfoldable pub some_below : ℕ → (ℕ → Bool) → Bool
@@ -45,20 +47,6 @@ module _ {A B : Type 0} (first : A → ℕ → Bool) (second : B → ℕ → Boo
     pub boundary : after.boundary ≡ before.boundary
     pub lane : lane_answered before.boundary answer ≡ lane_served before.boundary (in_lanes before)
     pub second_stays : some_below before.boundary (in_lanes before) ≡ true → after.second ≡ before.second
-
-  -- a take from the scheduler of one lane, as far as the numbers that belong there go
-  abbrev pub TakesFirst : Lanes A B → Lanes A B → Option ℕ → Type 0
-  TakesFirst before after r = Takes (in_lane before.boundary First (first before.first)) (in_lane before.boundary First (first after.first)) r
-
-  abbrev pub TakesSecond : Lanes A B → Lanes A B → Option ℕ → Type 0
-  TakesSecond before after r = Takes (in_lane before.boundary Second (second before.second)) (in_lane before.boundary Second (second after.second)) r
-
-  -- a take that turns to the second lane only where none of the first waits
-  pub record InTurn (before after : Lanes A B) (answer : Option ℕ) : Type 0 where
-    pub boundary : after.boundary ≡ before.boundary
-    pub turn :
-        ((row : ℕ) × (answer ≡ Some row) × TakesFirst before after (Some row) × (after.second ≡ before.second))
-        ⊎ (TakesFirst before after None × TakesSecond before after answer)
 
   -- both schedulers are cleared
   pub record LaneClears (before after : Lanes A B) : Type 0 where

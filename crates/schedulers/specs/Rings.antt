@@ -1,6 +1,28 @@
 -- The order of a ring: the first waiting number from a place on, going round at 1,024.
-use Rattle.std.specs.Prelude.{◌≡◌, ℕ, zero, suc, ◌+◌, ◌%◌, ◌<◌, ◌≤◌, Bool, true, false, cond, ◌⊎◌, Some, None, Option}
+use Rattle.std.specs.Prelude.{◌≡◌, ℕ, zero, suc, ◌+◌, ◌%◌, ◌<◌, ◌≤◌, Bool, true, false, cond, ◌⊎◌, List, length, Some, None, Option}
 use Rattle.model.specs.Waiting.{Bounded, NoneWaits}
+use Rattle.schedulers.specs.Bounds.{below_1024}
+use Rattle.schedulers.specs.Marks.{marked}
+
+-- a ring: a mark for each number that waits, and where the round goes on
+pub record Round : Type 0 where
+  pub waiting : List Bool
+  pub next : ℕ
+
+-- the numbers that wait
+abbrev pub in_round : Round → ℕ → Bool
+in_round round = below_1024 (marked round.waiting)
+
+-- a round has 1,024 numbers, and goes on at one of them
+pub record IsRound (round : Round) : Type 0 where
+  pub size : length round.waiting ≡ 1024
+  pub inside : round.next < 1024
+
+-- what holds of a ring as it stands in memory: none waits from the bound on
+pub record Sound (round : Round) (bound : ℕ) : Type 0 where
+  pub is_round : IsRound round
+  pub limit : bound ≤ 1024
+  pub quiet : (k : ℕ) → bound ≤ k → marked round.waiting k ≡ false
 
 -- the number after k, going round
 abbrev pub after : ℕ → ℕ

@@ -1,42 +1,27 @@
-ghost use Rattle.std.specs.Prelude.{◌≡◌, ℕ, if◌then◌else◌, nat_lt};
+ghost use Rattle.std.specs.Prelude.{◌≡◌, ℕ, Bool, if◌then◌else◌, nat_lt};
 ghost use Rattle.model.specs.Waiting.{Wakes, Takes, NoneWaits};
-ghost use Rattle.schedulers.specs.Lanes.{belongs as fits, in_lane, in_lanes, LaneWakes, LaneTakes, LaneClears, InTurn};
+ghost use Rattle.schedulers.specs.Lanes.{among, Tells, in_lanes, LaneWakes, LaneTakes, LaneClears};
 ghost use Rattle.schedulers.specs.Bounds.{bounded_either};
 
 use model::scheduler::Scheduler;
 
-// The first lane is for the numbers below a boundary, the second for the rest.
-#[derive(Clone, Copy, PartialEq, Eq, Debug)]
-pub enum Lane {
-    First,
-    Second,
-}
-
-// A scheduler made of two, one for each lane. The first lane is served first.
+// A scheduler made of two, one for each lane: the first lane is for the numbers below a boundary, the second for the rest. The first lane is
+// served first.
 #[derive(Drop)]
 pub struct Lanes<A, B> {
-    first: A,
-    second: B,
-    boundary: u16,
-}
-
-// Whether the number belongs in the lane.
-fn belongs(row: u16, lane: Lane, boundary: u16) -> bool
-    ensures { result ≡ fits boundary lane row }
-{
-    match lane {
-        Lane::First => row < boundary,
-        Lane::Second => row >= boundary,
-    }
+    pub first: A,
+    pub second: B,
+    pub boundary: u16,
 }
 
 // Takes numbers until one comes that belongs in the lane. The others sit in the wrong lane: they do not count as waiting, and are passed
 // over.
-fn take_in_lane<S: Scheduler>(scheduler: &mut S, lane: Lane, boundary: u16) -> Option<u16>
-    ensures { Takes (in_lane boundary lane (S.Scheduler.waits scheduler.old)) (in_lane boundary lane (S.Scheduler.waits scheduler.new)) result }
+fn take_where<S: Scheduler, F: Fn(u16) -> bool>(scheduler: &mut S, belongs: F) -> Option<u16>
+    requires { F.IsAlwaysCallable belongs }
+    ensures { (lane : ℕ → Bool) → Tells (F.post belongs) lane → Takes (among lane (S.Scheduler.waits scheduler.old)) (among lane (S.Scheduler.waits scheduler.new)) result }
 {
     while let Some(row) = scheduler.take() {
-        if belongs(row, lane, boundary) {
+        if belongs(row) {
             return Some(row);
         }
     }
@@ -57,16 +42,6 @@ impl<A: Scheduler, B: Scheduler> Lanes<A, B> {
             boundary,
         }
     }
-
-    // Turns to the second lane only where none of the first waits.
-    fn take_in_turn(&mut self) -> Option<u16>
-        ensures { InTurn A.Scheduler.waits B.Scheduler.waits self.old self.new result }
-    {
-        match take_in_lane(&mut self.first, Lane::First, self.boundary) {
-            Some(row) => Some(row),
-            None => take_in_lane(&mut self.second, Lane::Second, self.boundary),
-        }
-    }
 }
 
 impl<A: Scheduler, B: Scheduler> Scheduler for Lanes<A, B> {
@@ -79,7 +54,7 @@ impl<A: Scheduler, B: Scheduler> Scheduler for Lanes<A, B> {
         ensures wakes { Wakes row self.old self.new (in_lanes A.Scheduler.waits B.Scheduler.waits self.old) (in_lanes A.Scheduler.waits B.Scheduler.waits self.new) result }
         ensures lanes { LaneWakes A.Scheduler.waits B.Scheduler.waits row self.old self.new result }
     {
-        if belongs(row, Lane::First, self.boundary) {
+        if row < self.boundary {
             self.first.wake(row)
         } else {
             self.second.wake(row)
@@ -91,7 +66,11 @@ impl<A: Scheduler, B: Scheduler> Scheduler for Lanes<A, B> {
         ensures takes { Takes (in_lanes A.Scheduler.waits B.Scheduler.waits self.old) (in_lanes A.Scheduler.waits B.Scheduler.waits self.new) result }
         ensures lanes { LaneTakes A.Scheduler.waits B.Scheduler.waits self.old self.new result }
     {
-        self.take_in_turn()
+        let boundary = self.boundary;
+        match take_where(&mut self.first, |row| row < boundary) {
+            Some(row) => Some(row),
+            None => take_where(&mut self.second, |row| row >= boundary),
+        }
     }
 
     fn clear(&mut self)

@@ -5,33 +5,29 @@ ghost use Rattle.schedulers.specs.Rings.{InOrder, RingOrder};
 ghost use Rattle.schedulers.specs.Turns.{Call, line_after, turn, woken_since, began, QueueOrder};
 
 // The proof of the law stands behind this function.
-fn ring_order() -> u8
+fn ring_order()
     ensures { RingOrder }
-{
-    0
-}
+{}
 
 // What a ring seeks is the waiting number that comes first, going round, and is none exactly when none waits.
-pub fn ring_order_stands() -> u8
+pub fn ring_order_stands()
     ensures { (waits : ℕ → Bool) (start : ℕ) → Bounded waits → start < 1024 → InOrder waits start }
 {
-    ring_order()
+    ring_order();
 }
 
 // The proof of the law stands behind this function.
-fn queue_order() -> u8
+fn queue_order()
     ensures { QueueOrder }
-{
-    0
-}
+{}
 
 // Whatever calls were made, a number stands in a queue's line exactly when it was woken since it was last taken or cleared. The number
 // whose turn it is waits, and every other that waits began later. It is nobody's turn only when none waits.
-pub fn queue_order_stands() -> u8
+pub fn queue_order_stands()
     ensures waiting { (past : List Call) (k : ℕ) → elem k (line_after past) ≡ woken_since past k }
     ensures served { (past : List Call) (k : ℕ) → turn past ≡ Some k → woken_since past k ≡ true }
     ensures longest { (past : List Call) (k j : ℕ) → turn past ≡ Some k → woken_since past j ≡ true → (j ≢ k) → began past k < began past j }
     ensures none { (past : List Call) → turn past ≡ None → NoneWaits (woken_since past) }
 {
-    queue_order()
+    queue_order();
 }

@@ -1,6 +1,5 @@
-use Rattle.std.proofs.Common.{refl}
-use Rattle.schedulers.proofs.Marking.{none_marked, none_set}
+use Rattle.schedulers.proofs.Marking.{none_marked}
 use Rattle.schedulers.proofs.marks.no_marks.Goals as goal
 
-pub returns : goal.returns
-returns c = record { size = refl; none = none_marked 1024; tally = none_set 1024 }
+pub returns-clause-none : goal.returns-clause-none
+returns-clause-none c = none_marked 1024

@@ -1,5 +1,5 @@
 use Rattle.model.proofs.Counting.{waiting-<}
-use Rattle.schedulers.proofs.lanes.take_in_lane.Goals as goal
+use Rattle.schedulers.proofs.lanes.take_where.Goals as goal
 
 pub loop-row-smaller : goal.loop-row-smaller
 loop-row-smaller g c =
