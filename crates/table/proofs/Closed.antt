@@ -2,14 +2,14 @@
 use Rattle.std.proofs.Common.{◌≡◌, ℕ, Bool, true, false, cond, eqb, List, [], ◌∷◌, map, length, set, sym, refl, ap, ◌∙◌, subst, ⊎_elim, length-set}
 use lib.ListN.{length-map}
 use Rattle.std.proofs.lemmas.Bool.{cases_Bool, and_parts, or_cases, or_from, eqb-true, false≢true}
-use Rattle.model.specs.Domains.{cut_set}
+use Rattle.model.specs.Domains.{is_empty, cut_set}
 use Rattle.model.specs.Rows.{elem, Distinct}
 use Rattle.model.specs.Boxes.{Box}
 use Rattle.model.specs.declared.domain.Domain.{Domain}
 use Rattle.model.specs.declared.domain.Domain.TheVariants.{Empty, Zero, One, Open}
 use Rattle.model.specs.Refusals.{some_twice}
 use Rattle.table.specs.Relations.{flags_of, row_of}
-use Rattle.table.specs.Rules.{Claim, Rule, rules_of, nth_rule, sets_of, set_at, cut_to, Leads, is_empty, StrikeClosed, ClosureExists, BoolRules}
+use Rattle.table.specs.Rules.{Claim, Rule, rules_of, nth_rule, sets_of, set_at, cut_to, Leads, StrikeClosed, ClosureExists, BoolRules}
 use Rattle.table.specs.declared.relation.Relation.{Relation}
 use Rattle.table.proofs.Computed.{holds, true_holds, walk, rounds, all_empty, rule_keeps, closed_stays, empty_empties, walk_closes}
 use Rattle.table.proofs.Narrowed.{struck_tried}

@@ -2,13 +2,13 @@
 use Rattle.std.proofs.Common.{◌≡◌, ℕ, zero, suc, Bool, true, false, cond, not, ◌&&◌, ◌||◌, List, [], ◌∷◌, length, sym, refl, ◌∙◌, subst, ap₂, ⊎_elim, arith}
 use mathlib.Core.Bool.{beq}
 use Rattle.std.proofs.lemmas.Bool.{and_parts, and_from, or_cases, both_ways, false≢true}
-use Rattle.model.specs.Domains.{has, only}
+use Rattle.model.specs.Domains.{has, is_empty, only}
 use Rattle.model.specs.declared.domain.Domain.{Domain}
 use Rattle.model.specs.declared.domain.Domain.TheVariants.{Empty, Zero, One, Open}
 use Rattle.model.proofs.Revise.{beq_true, beq_refl}
 use Rattle.model.proofs.Sets.{same_sets}
 use Rattle.table.specs.Relations.{flags_of, row_of}
-use Rattle.table.specs.Rules.{Claim, Rule, ◌⇒◌, rules_of, nth_rule, set_at, Hold, cut_to, is_empty, some_empty}
+use Rattle.table.specs.Rules.{Claim, Rule, ◌⇒◌, rules_of, nth_rule, set_at, Hold, cut_to, some_empty}
 use Rattle.table.specs.declared.relation.Relation.{Relation}
 use Rattle.table.specs.declared.relation.Relation.TheVariants.{Equal, Not, And, Or}
 use Rattle.table.proofs.Tries.{tried}

@@ -1,16 +1,13 @@
 -- The rows of a table: they are found by their number, and one more comes last.
-use Rattle.std.specs.Prelude.{◌≡◌, ℕ, zero, suc, ◌<◌, ◌≤◌, List, [], ◌∷◌, ◌++◌, map, length, Some, None, Ok, Err, vec_items, vec_len, Option, MatchOption, slice_index_or, refl}
-use Rattle.std.proofs.Common.{sym, ap, subst, ◌∙◌, le_of_suc-le-suc, not-suc-le-zero, arith}
+use Rattle.std.specs.Prelude.{◌≡◌, ℕ, zero, suc, ◌<◌, ◌≤◌, List, [], ◌∷◌, map, length, Some, None, vec_items, vec_len, Option, MatchOption, slice_index_or}
+use Rattle.std.proofs.Common.{sym, ap, ◌∙◌, le_of_suc-le-suc, not-suc-le-zero, arith}
 use Rattle.std.specs.Borrow.{Bor}
-use Rattle.std.proofs.lemmas.List.{take_all, get_or_past, map-append, length-map}
+use Rattle.std.proofs.lemmas.List.{take_all, get_or_past, length-map}
 use Rattle.std.specs.Slice.{IsGetResult}
 use Rattle.model.specs.Rows.{no_row, nth_row, listed, row_at}
-use Rattle.model.specs.declared.refusal.AddRefusal.{AddRefusal}
 use Rattle.table.specs.Proper.{meant}
-use Rattle.table.specs.Refusals.{refusal}
 use Rattle.table.specs.Relations.{row_of}
-use Rattle.table.specs.Tables.{rows_of, Added}
-use Rattle.table.specs.declared.relation.Relation.{Relation}
+use Rattle.table.specs.Tables.{rows_of}
 use Rattle.table.specs.declared.table.Table.{Table}
 use Rattle.table.specs.declared.table.TableRow.{TableRow}
 
@@ -37,18 +34,3 @@ row_past t k h =
 pub row_got : (t : Table) (k : ℕ) (r : Option (Bor TableRow)) → IsGetResult (vec_items t.rows) k k r → MatchOption r (row_at (rows_of t) k ≡ no_row) (λ x. row_at (rows_of t) k ≡ row_of x.now.relation)
 row_got t k None i = row_past t k i.3
 row_got t k (Some x) i = row_here t k x.now i.3.0 i.1
-
--- adding, by the refusal that the table's own count gives
-abbrev Why : Table → Relation ℕ → Option AddRefusal
-Why t r = refusal (length (rows_of t)) r
-
-counted : (t : Table) (r : Relation ℕ) (n : ℕ) → n ≡ vec_len t.rows → Why t r ≡ refusal n r
-counted t r n e = ap (λ k. refusal k r) (length-rows t ∙ sym e)
-
-pub refused : (t : Table) (r : Relation ℕ) (n : ℕ) (e : AddRefusal) → n ≡ vec_len t.rows → refusal n r ≡ Some e → Added (Why t r) r t t (Err e)
-refused t r n e c h = subst (λ o. Added o r t t (Err e)) (sym (counted t r n c ∙ h)) (refl, refl)
-
-pub taken : (t u : Table) (r : Relation ℕ) (n : ℕ) (row : TableRow) → n ≡ vec_len t.rows → refusal n r ≡ None → row.relation ≡ r → vec_items u.rows ≡ vec_items t.rows ++ row ∷ [] → Added (Why t r) r t u (Ok tt)
-taken t u r n row c h e i =
-    subst (λ o. Added o r t u (Ok tt)) (sym (counted t r n c ∙ h))
-    (refl, ap (map meant) i ∙ map-append meant (vec_items t.rows) (row ∷ []) ∙ ap (λ x. rows_of t ++ row_of x ∷ []) e)

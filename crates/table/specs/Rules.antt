@@ -1,11 +1,11 @@
 -- The proof system BOOL: twenty rules over the sets of a row's flags, what they lead to, and that a strike leaves exactly that.
 use Rattle.std.specs.Prelude.{◌≡◌, ℕ, Bool, true, false, ◌||◌, List, [], ◌∷◌, map, slice_index_or, slice_set}
-use Rattle.model.specs.Domains.{only, cut_set}
+use Rattle.model.specs.Domains.{is_empty, only, cut_set}
 use Rattle.model.specs.Rows.{On, Distinct}
 use Rattle.model.specs.Boxes.{Box}
 use Rattle.model.specs.Strikes.{Struck}
 use Rattle.model.specs.declared.domain.Domain.{Domain}
-use Rattle.model.specs.declared.domain.Domain.TheVariants.{Empty, Zero, One, Open}
+use Rattle.model.specs.declared.domain.Domain.TheVariants.{Empty}
 use Rattle.table.specs.Relations.{flags_of, row_of}
 use Rattle.table.specs.declared.relation.Relation.{Relation}
 use Rattle.table.specs.declared.relation.Relation.TheVariants.{Equal, Not, And, Or}
@@ -103,12 +103,6 @@ pub record Closure (rules : List Rule) (sets c : List Domain) : Type 0 where
   pub steps : List ℕ
   pub reached : Leads rules steps sets c
   pub closed : (k : ℕ) → Hold (nth_rule rules k).premises c → cut_to (nth_rule rules k).conclusions c ≡ c
-
-abbrev pub is_empty : Domain → Bool
-is_empty Empty = true
-is_empty Zero = false
-is_empty One = false
-is_empty Open = false
 
 abbrev pub some_empty : List Domain → Bool
 some_empty [] = false

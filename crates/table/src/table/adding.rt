@@ -16,10 +16,8 @@ impl Table {
     pub fn new(heap: Global) -> Result<Table, MakeRefusal>
         ensures { MatchResult result (λ t. rows_of t ≡ []) (λ e. e ≡ Memory) }
     {
-        match Vec::with_capacity(heap, MOST_ROWS) {
-            Ok(rows) => Ok(Table { rows }),
-            Err(_) => Err(MakeRefusal::Memory),
-        }
+        let rows = Vec::with_capacity(heap, MOST_ROWS)?;
+        Ok(Table { rows })
     }
 
     // Adds a row after the others, or says why not: a flag above 255, a flag that stands twice in the row, a full table, looked at in this
@@ -27,13 +25,8 @@ impl Table {
     pub fn add(&mut self, relation: Relation<usize>) -> Result<(), AddRefusal>
         ensures { Added (refusal (length (rows_of self.old)) relation) relation self.old self.new result }
     {
-        match row_for(relation, self.rows.len()) {
-            Ok(row) => {
-                self.rows.push_reserved(row);
-                Ok(())
-            }
-            Err(refusal) => Err(refusal),
-        }
+        self.rows.push_reserved(row_for(relation, self.rows.len())?);
+        Ok(())
     }
 }
 
