@@ -1,5 +1,6 @@
 -- The proof system BOOL: twenty rules over the sets of a row's flags, what they lead to, and that a strike leaves exactly that.
-use Rattle.std.specs.Prelude.{◌≡◌, ℕ, Bool, true, false, ◌||◌, List, [], ◌∷◌, map, slice_index_or, slice_set}
+use Rattle.std.specs.Prelude.{◌≡◌, ℕ, Bool, true, false, List, [], ◌∷◌, map, slice_index_or, slice_set}
+use Rattle.std.specs.List.{list_any}
 use Rattle.model.specs.Domains.{is_empty, only, cut_set}
 use Rattle.model.specs.Rows.{On, Distinct}
 use Rattle.model.specs.Boxes.{Box}
@@ -105,8 +106,7 @@ pub record Closure (rules : List Rule) (sets c : List Domain) : Type 0 where
   pub closed : (k : ℕ) → Hold (nth_rule rules k).premises c → cut_to (nth_rule rules k).conclusions c ≡ c
 
 abbrev pub some_empty : List Domain → Bool
-some_empty [] = false
-some_empty (d ∷ ds) = is_empty d || some_empty ds
+some_empty ds = list_any is_empty ds
 
 -- a strike of a row leaves its flags what the rules lead to; if that has an empty set, it empties every flag of the row
 abbrev pub StrikeClosed : Type 0
