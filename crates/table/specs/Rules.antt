@@ -110,7 +110,14 @@ some_empty ds = list_any is_empty ds
 
 -- a strike of a row leaves its flags what the rules lead to; if that has an empty set, it empties every flag of the row
 abbrev pub StrikeClosed : Type 0
-StrikeClosed = (r : Relation ℕ) → Distinct (flags_of r) → (before after : Box) → Struck (row_of r) before after → (c : List Domain) → Closure (rules_of r) (sets_of before r) c → (some_empty c ≡ true → (f : ℕ) → On (row_of r) f → after f ≡ Empty) × (some_empty c ≡ false → sets_of after r ≡ c)
+StrikeClosed =
+    (r : Relation ℕ) →
+    Distinct (flags_of r) →
+    (before after : Box) →
+    Struck (row_of r) before after →
+    (c : List Domain) →
+    Closure (rules_of r) (sets_of before r) c →
+    (some_empty c ≡ true → (f : ℕ) → On (row_of r) f → after f ≡ Empty) × (some_empty c ≡ false → sets_of after r ≡ c)
 
 -- and the rules always lead somewhere
 abbrev pub ClosureExists : Type 0
