@@ -1,6 +1,6 @@
-ghost use Rattle.std.specs.Prelude.{◌≡◌, [], length, if◌then◌else◌, Some, None, MatchResult};
+ghost use Rattle.std.specs.Prelude.{◌≡◌, [], length, Some, None, MatchResult};
 ghost use Rattle.model.specs.declared.refusal.MakeRefusal.TheVariants.{Memory};
-ghost use Rattle.model.specs.Refusals.{some_large, some_twice};
+ghost use Rattle.model.specs.Refusals.{some_twice};
 ghost use Rattle.table.specs.Refusals.{in_bytes, refusal};
 ghost use Rattle.table.specs.Relations.{flags_of};
 ghost use Rattle.table.specs.Tables.{rows_of, Added};
