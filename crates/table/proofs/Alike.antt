@@ -1,6 +1,6 @@
 -- What the derived comparison of relations between sets tells.
-use Rattle.std.proofs.Common.{◌≡◌, ap₂, true, rules}
-use Rattle.std.proofs.lemmas.Bool.{and_parts, false≢true}
+use Rattle.std.proofs.Common.{◌≡◌, true, rules, arith}
+use Rattle.std.proofs.lemmas.Bool.{and_parts}
 use Rattle.model.specs.contracts.domain.Domain.{the_type, the_row}
 use Rattle.model.specs.contracts.domain.DomainPartialEq.TheImpl as domains
 use Rattle.model.specs.declared.domain.Domain.{Domain}
@@ -14,16 +14,8 @@ one_set = same_true the_type (search rules)
 
 -- relations whose sets are equal, one by one, are equal
 pub same_relation : (a b : Relation Domain) → (relations.ghosts the_row domains.ghosts domains.dict).eq a b ≡ true → a ≡ b
-same_relation (Equal x y) (Equal z w) h =
-    let p = and_parts (sameb the_type x z) (sameb the_type y w) h in ap₂ Equal (one_set x z p.0) (one_set y w p.1)
-same_relation (Not x y) (Not z w) h =
-    let p = and_parts (sameb the_type x z) (sameb the_type y w) h in ap₂ Not (one_set x z p.0) (one_set y w p.1)
-same_relation (And x y u) (And z w v) h =
-    let p = and_parts (sameb the_type x z) _ h in
-    let q = and_parts (sameb the_type y w) (sameb the_type u v) p.1 in
-    cc (one_set x z p.0, one_set y w q.0, one_set u v q.1)
-same_relation (Or x y u) (Or z w v) h =
-    let p = and_parts (sameb the_type x z) _ h in
-    let q = and_parts (sameb the_type y w) (sameb the_type u v) p.1 in
-    cc (one_set x z p.0, one_set y w q.0, one_set u v q.1)
-same_relation a b h = absurd (false≢true h)
+same_relation (Equal x y) (Equal z w) h = grind (arith, one_set)
+same_relation (Not x y) (Not z w) h = grind (arith, one_set)
+same_relation (And x y u) (And z w v) h = let p = and_parts (sameb the_type x z) _ h in grind (arith, one_set)
+same_relation (Or x y u) (Or z w v) h = let p = and_parts (sameb the_type x z) _ h in grind (arith, one_set)
+same_relation a b h = cc

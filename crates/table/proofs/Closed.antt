@@ -1,17 +1,17 @@
 -- A strike leaves what the rules lead to.
-use Rattle.std.proofs.Common.{◌≡◌, ℕ, Bool, true, false, cond, eqb, List, [], ◌∷◌, map, length, set, sym, refl, ap, ◌∙◌, subst, ⊎_elim, length-set}
+use Rattle.std.proofs.Common.{◌≡◌, ℕ, Bool, true, false, cond, List, [], ◌∷◌, map, length, set, sym, refl, ap, ◌∙◌, subst, ⊎_elim, length-set, arith}
 use lib.ListN.{length-map}
-use Rattle.std.proofs.lemmas.Bool.{cases_Bool, and_parts, or_cases, or_from, eqb-true, false≢true}
-use Rattle.model.specs.Domains.{cut_set}
+use Rattle.std.proofs.lemmas.Bool.{cases_Bool, and_parts, false≢true}
+use Rattle.model.specs.Domains.{is_empty, cut_set}
 use Rattle.model.specs.Rows.{elem, Distinct}
 use Rattle.model.specs.Boxes.{Box}
 use Rattle.model.specs.declared.domain.Domain.{Domain}
-use Rattle.model.specs.declared.domain.Domain.TheVariants.{Empty, Zero, One, Open}
+use Rattle.model.specs.declared.domain.Domain.TheVariants.{Empty}
 use Rattle.model.specs.Refusals.{some_twice}
 use Rattle.table.specs.Relations.{flags_of, row_of}
-use Rattle.table.specs.Rules.{Claim, Rule, rules_of, nth_rule, sets_of, set_at, cut_to, Leads, is_empty, StrikeClosed, ClosureExists, BoolRules}
+use Rattle.table.specs.Rules.{Claim, Rule, rules_of, nth_rule, sets_of, set_at, cut_to, Leads, StrikeClosed, ClosureExists, BoolRules}
 use Rattle.table.specs.declared.relation.Relation.{Relation}
-use Rattle.table.proofs.Computed.{holds, true_holds, walk, rounds, all_empty, rule_keeps, closed_stays, empty_empties, walk_closes}
+use Rattle.table.proofs.Computed.{holds, holds_decides, walk, rounds, all_empty, rule_keeps, closed_stays, empty_empties, walk_closes}
 use Rattle.table.proofs.Narrowed.{struck_tried}
 use Rattle.table.proofs.Tries.{tried}
 
@@ -37,28 +37,24 @@ walk_leads rules (k ∷ ks) ds =
     let rule = nth_rule rules k in
     let Goes : Bool → Type 0 = λ b. (steps : List ℕ) × Leads rules steps ds (walk rules ks (cond b (cut_to rule.conclusions ds) ds)) in
     ⊎_elim
-    (λ h. let next = walk_leads rules ks (cut_to rule.conclusions ds) in subst Goes (sym h) (k ∷ next.0, (true_holds rule.premises ds h, next.1)))
+    (λ h. let next = walk_leads rules ks (cut_to rule.conclusions ds) in subst Goes (sym h) (k ∷ next.0, ((holds_decides rule.premises ds).0 h, next.1)))
     (λ h. subst Goes (sym h) (walk_leads rules ks ds))
     (cases_Bool (holds rule.premises ds))
 
 is_empty_true : (d : Domain) → is_empty d ≡ true → d ≡ Empty
 is_empty_true Empty e = refl
-is_empty_true Zero e = absurd (false≢true e)
-is_empty_true One e = absurd (false≢true e)
-is_empty_true Open e = absurd (false≢true e)
+is_empty_true d e = absurd (false≢true e)
 
 each_empty : (b : Box) (fs : List ℕ) → all_empty (map b fs) ≡ true → (f : ℕ) → elem f fs ≡ true → b f ≡ Empty
 each_empty b [] e f i = absurd (false≢true i)
 each_empty b (g ∷ gs) e f i =
     let p = and_parts (is_empty (b g)) (all_empty (map b gs)) e in
-    ⊎_elim
-    (λ q. ap b (eqb-true f g q) ∙ is_empty_true (b g) p.0)
-    (λ j. each_empty b gs p.1 f j)
-    (or_cases (eqb f g) (elem f gs) i)
+    let here = is_empty_true (b g) p.0 in
+    grind (arith, each_empty b gs p.1 f)
 
 different : (fs : List ℕ) → Distinct fs → some_twice fs ≡ false
 different [] d = refl
-different (f ∷ fs) d = or_from (elem f fs) (some_twice fs) d.0 (different fs d.1)
+different (f ∷ fs) d = grind (arith, different fs d.1)
 
 strike_closed : StrikeClosed
 strike_closed r d before after s c k =

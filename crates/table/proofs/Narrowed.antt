@@ -1,5 +1,5 @@
 -- Narrowing the sets of a relation's flags strikes the row that it means.
-use Rattle.std.proofs.Common.{◌≡◌, ℕ, false, [], ◌∷◌, map, length, sym, refl, ap, ◌∙◌, subst, ⊎_elim}
+use Rattle.std.proofs.Common.{◌≡◌, ℕ, false, map, length, sym, refl, ap, ◌∙◌, subst, ⊎_elim, arith}
 use lib.ListN.{length-map}
 use Rattle.std.proofs.lemmas.Bool.{cases_Bool, false≢true}
 use Rattle.model.specs.Domains.{Has}
@@ -9,7 +9,6 @@ use Rattle.model.specs.Strikes.{Struck, Emptied, Says, Strikes}
 use Rattle.model.specs.declared.domain.Domain.TheVariants.{Empty}
 use Rattle.model.specs.declared.strike.Strike.{Strike}
 use Rattle.model.specs.declared.strike.Strike.TheVariants.{Unchanged, Changed, Dead}
-use Rattle.model.proofs.Members.{in_here}
 use Rattle.model.proofs.Sets.{some_value, same_sets}
 use Rattle.model.proofs.Striking.{off}
 use Rattle.table.specs.Left.{left}
@@ -17,47 +16,35 @@ use Rattle.table.specs.Narrowing.{with_sets, Tells, Narrows}
 use Rattle.model.specs.Refusals.{some_twice}
 use Rattle.table.specs.Relations.{first, parts, each, flags_of, row_of}
 use Rattle.table.specs.declared.relation.Relation.{Relation}
-use Rattle.table.specs.declared.relation.Relation.TheVariants.{Equal, Not, And, Or}
+use Rattle.table.specs.declared.relation.Relation.TheVariants.{Equal}
 use Rattle.table.proofs.Tries.{tried, length-tried, kept, found}
 use Rattle.table.proofs.Writing.{map_same, alike, differ_on, with_sets_other, with_sets_here}
 
 -- what is left of the sets of the flags is what trying every tuple leaves
 left_tried : (b : Box) (r : Relation ℕ) → parts (left (each b r)) ≡ tried (map b (flags_of r)) (row_of r).allows
 left_tried b (Equal x y) = refl
-left_tried b (Not x y) = refl
-left_tried b (And x y z) = refl
-left_tried b (Or x y z) = refl
+left_tried b r = refl
 
 first_on : (r : Relation ℕ) → On (row_of r) (first r)
-first_on (Equal x y) = in_here x (y ∷ [])
-first_on (Not x y) = in_here x (y ∷ [])
-first_on (And x y z) = in_here x (y ∷ (z ∷ []))
-first_on (Or x y z) = in_here x (y ∷ (z ∷ []))
+first_on (Equal x y) = grind arith
+first_on r = grind arith
 
 -- a relation of sets is known by its parts
 by_parts : (a b : Box) (r : Relation ℕ) → map a (flags_of r) ≡ parts (left (each b r)) → each a r ≡ left (each b r)
 by_parts a b (Equal x y) e = cc
-by_parts a b (Not x y) e = cc
-by_parts a b (And x y z) e = cc
-by_parts a b (Or x y z) e = cc
+by_parts a b r e = cc
 
 first_each : (a : Box) (r : Relation ℕ) → first (each a r) ≡ a (first r)
 first_each a (Equal x y) = refl
-first_each a (Not x y) = refl
-first_each a (And x y z) = refl
-first_each a (Or x y z) = refl
+first_each a r = refl
 
 parts_each : (a : Box) (r : Relation ℕ) → parts (each a r) ≡ map a (flags_of r)
 parts_each a (Equal x y) = refl
-parts_each a (Not x y) = refl
-parts_each a (And x y z) = refl
-parts_each a (Or x y z) = refl
+parts_each a r = refl
 
 same_each : (a b : Box) (r : Relation ℕ) → map a (flags_of r) ≡ map b (flags_of r) → each a r ≡ each b r
 same_each a b (Equal x y) e = cc
-same_each a b (Not x y) e = cc
-same_each a b (And x y z) e = cc
-same_each a b (Or x y z) e = cc
+same_each a b r e = cc
 
 -- a box that has at the flags what is left, and is else as before
 module _ (r : Relation ℕ) (different : some_twice (flags_of r) ≡ false) (before after : Box)

@@ -1,6 +1,6 @@
 -- Trying every tuple, for any list of flags: it leaves exactly the values that have support.
-use Rattle.std.proofs.Common.{◌≡◌, ℕ, Bool, true, false, cond, ◌&&◌, eqb, List, [], ◌∷◌, map, length, sym, refl, ap, ◌∙◌, subst, ap₂, ⊎_elim}
-use Rattle.std.proofs.lemmas.Bool.{or_cases, or_parts, or_left, or_right, and_parts, and_from, eqb-true, eq-eqb, ne_eqb, false≢true, cond-true, cond-false}
+use Rattle.std.proofs.Common.{◌≡◌, ℕ, Bool, true, false, cond, ◌&&◌, eqb, List, [], ◌∷◌, map, length, sym, refl, ap, ◌∙◌, subst, ap₂, ⊎_elim, arith}
+use Rattle.std.proofs.lemmas.Bool.{or_cases, or_parts, and_parts, and_from, eqb-true, eq-eqb, ne_eqb, false≢true, cond-true, cond-false}
 use Rattle.model.specs.Domains.{has, Has}
 use Rattle.model.specs.Rows.{Valuation, elem}
 use Rattle.model.specs.Boxes.{Box}
@@ -26,8 +26,8 @@ length-tried [] p = refl
 length-tried (s ∷ ss) p = cc (length-tried ss (λ vs. some_in s (λ v. p (v ∷ vs))))
 
 some_in_has : (s : Domain) (p : Bool → Bool) (v : Bool) → Has s v → p v ≡ true → some_in s p ≡ true
-some_in_has s p false h t = or_left (has s false && p false) (has s true && p true) (and_from (has s false) (p false) h t)
-some_in_has s p true h t = or_right (has s false && p false) (has s true && p true) (and_from (has s true) (p true) h t)
+some_in_has s p false h t = grind arith
+some_in_has s p true h t = grind arith
 
 some_in_found : (s : Domain) (p : Bool → Bool) → some_in s p ≡ true → (v : Bool) × Has s v × (p v ≡ true)
 some_in_found s p t = ⊎_elim

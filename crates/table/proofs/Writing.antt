@@ -1,6 +1,6 @@
 -- Boxes at the flags of a list: alike or not, and with other sets written there.
-use Rattle.std.proofs.Common.{◌≡◌, ℕ, true, false, eqb, ◌⊎◌, List, [], ◌∷◌, map, length, sym, refl, ◌∙◌, subst, ap₂, inl, inr, ⊎_elim, arith}
-use Rattle.std.proofs.lemmas.Bool.{or_cases, or_parts, eqb-true, eqb-false, false≢true}
+use Rattle.std.proofs.Common.{◌≡◌, ℕ, true, false, eqb, ◌⊎◌, List, [], ◌∷◌, map, length, refl, ◌∙◌, ap₂, inl, inr, ⊎_elim, arith}
+use Rattle.std.proofs.lemmas.Bool.{or_parts, eqb-false, false≢true}
 use Rattle.model.specs.Rows.{elem}
 use Rattle.model.specs.Boxes.{Box, with_set}
 use Rattle.model.specs.declared.domain.Domain.{Domain}
@@ -17,10 +17,10 @@ map_same a b (f ∷ fs) h = ap₂ (λ x xs. x ∷ xs) (h f (in_here f fs)) (map_
 
 pub alike : (a b : Box) (fs : List ℕ) → map a fs ≡ map b fs → (f : ℕ) → elem f fs ≡ true → a f ≡ b f
 alike a b [] e f i = absurd (false≢true i)
-alike a b (g ∷ gs) e f i = ⊎_elim
-    (λ q. let h : a g ≡ b g = cc in subst (λ x. a x ≡ b x) (sym (eqb-true f g q)) h)
-    (λ j. let h : map a gs ≡ map b gs = cc in alike a b gs h f j)
-    (or_cases (eqb f g) (elem f gs) i)
+alike a b (g ∷ gs) e f i =
+    let here : a g ≡ b g = cc in
+    let rest : map a gs ≡ map b gs = cc in
+    grind (arith, alike a b gs rest f)
 
 -- alike at some flags, or different at one of them
 pub differ_on : (a b : Box) (fs : List ℕ) → (map a fs ≡ map b fs) ⊎ ((f : ℕ) × (elem f fs ≡ true) × (a f ≡ b f → ⊥))
@@ -40,8 +40,8 @@ with_sets_other (g ∷ gs) (s ∷ ss) b f n =
 
 pub with_sets_here : (fs : List ℕ) (ss : List Domain) (b : Box) → some_twice fs ≡ false → length ss ≡ length fs → map (with_sets fs ss b) fs ≡ ss
 with_sets_here [] [] b d e = refl
-with_sets_here [] (s ∷ ss) b d e = absurd (omega arith)
-with_sets_here (f ∷ fs) [] b d e = absurd (omega arith)
+with_sets_here [] (s ∷ ss) b d e = cc
+with_sets_here (f ∷ fs) [] b d e = cc
 with_sets_here (f ∷ fs) (s ∷ ss) b d e =
     let n = or_parts (elem f fs) (some_twice fs) d in
     ap₂ (λ x xs. x ∷ xs) (with_sets_other fs ss (with_set b f s) f n.0 ∙ with_here b f s) (with_sets_here fs ss (with_set b f s) n.1 (omega arith))

@@ -26,7 +26,7 @@ left_three kind p x y z =
     (those z (λ c. some_in y (λ b. some_in x (λ a. p a b c))))
 
 abbrev pub left : Relation Domain → Relation Domain
-left (Equal x y) = left_two (λ a b. Equal a b) equal x y
-left (Not x y) = left_two (λ a b. Not a b) opposite x y
-left (And x y z) = left_three (λ a b c. And a b c) both x y z
-left (Or x y z) = left_three (λ a b c. Or a b c) either x y z
+left (Equal x y) = left_two Equal equal x y
+left (Not x y) = left_two Not opposite x y
+left (And x y z) = left_three And both x y z
+left (Or x y z) = left_three Or either x y z

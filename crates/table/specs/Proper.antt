@@ -6,7 +6,7 @@ use Rattle.model.proofs.Members.{distinct, below}
 use Rattle.table.specs.Relations.{flags_of, row_of}
 use Rattle.table.specs.Tables.{rows_of}
 use Rattle.table.specs.declared.relation.Relation.{Relation}
-use Rattle.table.specs.declared.relation.Relation.TheVariants.{Equal, Not, And, Or}
+use Rattle.table.specs.declared.relation.Relation.TheVariants.{Equal}
 use Rattle.table.specs.declared.table.Table.{Table}
 use Rattle.table.specs.declared.table.TableRow.{TableRow}
 
@@ -16,9 +16,7 @@ meant row = row_of row.relation
 
 some : (r : Relation ℕ) → 0 < length (flags_of r)
 some (Equal x y) = lit< tt
-some (Not x y) = lit< tt
-some (And x y z) = lit< tt
-some (Or x y z) = lit< tt
+some r = lit< tt
 
 row_proper : (row : TableRow) → Proper (meant row)
 row_proper row = record {

@@ -1,5 +1,5 @@
 -- The four kinds of relations: their places, their flags, the tuples that they allow and the rows that they mean.
-use Rattle.std.specs.Prelude.{ℕ, Bool, false, not, ◌&&◌, ◌||◌, List, [], ◌∷◌, Some, None, Option}
+use Rattle.std.specs.Prelude.{ℕ, Bool, false, not, ◌&&◌, ◌||◌, ◌⊎◌, List, [], ◌∷◌, Some, None, Option}
 use Rattle.std.specs.Bool.{beq}
 use Rattle.model.specs.Rows.{Row}
 use Rattle.table.specs.declared.relation.Relation.{Relation}
@@ -36,6 +36,27 @@ each f (Equal x y) = Equal (f x) (f y)
 each f (Not x y) = Not (f x) (f y)
 each f (And x y z) = And (f x) (f y) (f z)
 each f (Or x y z) = Or (f x) (f y) (f z)
+
+-- two relations are of one kind, and what stands at a place of one is related to what stands there in the other
+abbrev pub Placewise : {A B : Type 0} → (A → B → Type 0) → Relation A → Relation B → Type 0
+Placewise R (Equal x y) (Equal a b) = R x a × R y b
+Placewise R (Not x y) (Not a b) = R x a × R y b
+Placewise R (And x y z) (And a b c) = R x a × R y b × R z c
+Placewise R (Or x y z) (Or a b c) = R x a × R y b × R z c
+Placewise R r s = ⊥
+
+-- a fact holds of what stands at some place, and of what stands at each
+abbrev pub AtSomePlace : {A : Type 0} → (A → Type 0) → Relation A → Type 0
+AtSomePlace P (Equal x y) = P x ⊎ P y
+AtSomePlace P (Not x y) = P x ⊎ P y
+AtSomePlace P (And x y z) = P x ⊎ (P y ⊎ P z)
+AtSomePlace P (Or x y z) = P x ⊎ (P y ⊎ P z)
+
+abbrev pub AtEachPlace : {A : Type 0} → (A → Type 0) → Relation A → Type 0
+AtEachPlace P (Equal x y) = P x × P y
+AtEachPlace P (Not x y) = P x × P y
+AtEachPlace P (And x y z) = P x × P y × P z
+AtEachPlace P (Or x y z) = P x × P y × P z
 
 abbrev pub flags_of : Relation ℕ → List ℕ
 flags_of r = parts r

@@ -1,11 +1,12 @@
 -- The proof system BOOL: twenty rules over the sets of a row's flags, what they lead to, and that a strike leaves exactly that.
-use Rattle.std.specs.Prelude.{◌≡◌, ℕ, Bool, true, false, ◌||◌, List, [], ◌∷◌, map, slice_index_or, slice_set}
-use Rattle.model.specs.Domains.{only, cut_set}
+use Rattle.std.specs.Prelude.{◌≡◌, ℕ, Bool, true, false, List, [], ◌∷◌, map, slice_index_or, slice_set}
+use Rattle.std.specs.List.{list_any}
+use Rattle.model.specs.Domains.{is_empty, only, cut_set}
 use Rattle.model.specs.Rows.{On, Distinct}
 use Rattle.model.specs.Boxes.{Box}
 use Rattle.model.specs.Strikes.{Struck}
 use Rattle.model.specs.declared.domain.Domain.{Domain}
-use Rattle.model.specs.declared.domain.Domain.TheVariants.{Empty, Zero, One, Open}
+use Rattle.model.specs.declared.domain.Domain.TheVariants.{Empty}
 use Rattle.table.specs.Relations.{flags_of, row_of}
 use Rattle.table.specs.declared.relation.Relation.{Relation}
 use Rattle.table.specs.declared.relation.Relation.TheVariants.{Equal, Not, And, Or}
@@ -104,19 +105,19 @@ pub record Closure (rules : List Rule) (sets c : List Domain) : Type 0 where
   pub reached : Leads rules steps sets c
   pub closed : (k : ℕ) → Hold (nth_rule rules k).premises c → cut_to (nth_rule rules k).conclusions c ≡ c
 
-abbrev pub is_empty : Domain → Bool
-is_empty Empty = true
-is_empty Zero = false
-is_empty One = false
-is_empty Open = false
-
 abbrev pub some_empty : List Domain → Bool
-some_empty [] = false
-some_empty (d ∷ ds) = is_empty d || some_empty ds
+some_empty ds = list_any is_empty ds
 
 -- a strike of a row leaves its flags what the rules lead to; if that has an empty set, it empties every flag of the row
 abbrev pub StrikeClosed : Type 0
-StrikeClosed = (r : Relation ℕ) → Distinct (flags_of r) → (before after : Box) → Struck (row_of r) before after → (c : List Domain) → Closure (rules_of r) (sets_of before r) c → (some_empty c ≡ true → (f : ℕ) → On (row_of r) f → after f ≡ Empty) × (some_empty c ≡ false → sets_of after r ≡ c)
+StrikeClosed =
+    (r : Relation ℕ) →
+    Distinct (flags_of r) →
+    (before after : Box) →
+    Struck (row_of r) before after →
+    (c : List Domain) →
+    Closure (rules_of r) (sets_of before r) c →
+    (some_empty c ≡ true → (f : ℕ) → On (row_of r) f → after f ≡ Empty) × (some_empty c ≡ false → sets_of after r ≡ c)
 
 -- and the rules always lead somewhere
 abbrev pub ClosureExists : Type 0

@@ -1,5 +1,5 @@
-ghost use Rattle.std.specs.Prelude.{◌≡◌};
-ghost use Rattle.table.specs.Relations.{first, second, third};
+ghost use Rattle.std.specs.Prelude.{◌≡◌, true, false, MatchBool, MatchResult};
+ghost use Rattle.table.specs.Relations.{first, second, third, Placewise, AtSomePlace, AtEachPlace};
 
 // A row of a table is one of four kinds: x = y, not x = y, x and y = z, x or y = z. `Relation<usize>` is a row as it is handed in,
 // `Relation<u8>` one that is stored, and `Relation<Domain>` holds the sets of a row's flags. A row of two flags has no third.
@@ -40,6 +40,46 @@ impl<T: Copy> Relation<T> {
         match self {
             Relation::Equal(_, _) | Relation::Not(_, _) => None,
             Relation::And(_, _, z) | Relation::Or(_, _, z) => Some(z),
+        }
+    }
+
+    // The relation of what the function gives at each place.
+    pub(crate) fn map<U, F: Fn(T) -> U>(self, f: F) -> Relation<U>
+        requires { F.IsAlwaysCallable f }
+        ensures { Placewise (F.post f) self result }
+    {
+        match self {
+            Relation::Equal(x, y) => Relation::Equal(f(x), f(y)),
+            Relation::Not(x, y) => Relation::Not(f(x), f(y)),
+            Relation::And(x, y, z) => Relation::And(f(x), f(y), f(z)),
+            Relation::Or(x, y, z) => Relation::Or(f(x), f(y), f(z)),
+        }
+    }
+
+    // The same for a function that may fail; if it does at some place, the answer is its error.
+    pub(crate) fn try_map<U: Drop, E, F: Fn(T) -> Result<U, E>>(
+        self,
+        f: F,
+    ) -> Result<Relation<U>, E>
+        requires { F.IsAlwaysCallable f }
+        ensures { MatchResult result (Placewise (λ x y. F.post f x (Ok y)) self) (λ e. AtSomePlace (λ x. F.post f x (Err e)) self) }
+    {
+        Ok(match self {
+            Relation::Equal(x, y) => Relation::Equal(f(x)?, f(y)?),
+            Relation::Not(x, y) => Relation::Not(f(x)?, f(y)?),
+            Relation::And(x, y, z) => Relation::And(f(x)?, f(y)?, f(z)?),
+            Relation::Or(x, y, z) => Relation::Or(f(x)?, f(y)?, f(z)?),
+        })
+    }
+
+    // Whether some place passes the test.
+    pub(crate) fn any<F: Fn(T) -> bool>(self, test: F) -> bool
+        requires { F.IsAlwaysCallable test }
+        ensures { MatchBool result (AtSomePlace (λ x. F.post test x true) self) (AtEachPlace (λ x. F.post test x false) self) }
+    {
+        match self {
+            Relation::Equal(x, y) | Relation::Not(x, y) => test(x) || test(y),
+            Relation::And(x, y, z) | Relation::Or(x, y, z) => test(x) || test(y) || test(z),
         }
     }
 }

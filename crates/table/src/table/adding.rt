@@ -1,13 +1,12 @@
-ghost use Rattle.std.specs.Prelude.{◌≡◌, [], length, if◌then◌else◌, Some, None, MatchResult};
+ghost use Rattle.std.specs.Prelude.{◌≡◌, [], length, Some, None, MatchResult};
 ghost use Rattle.model.specs.declared.refusal.MakeRefusal.TheVariants.{Memory};
-ghost use Rattle.model.specs.Refusals.{some_large, some_twice};
-ghost use Rattle.table.specs.Refusals.{refusal};
+ghost use Rattle.model.specs.Refusals.{some_twice};
+ghost use Rattle.table.specs.Refusals.{in_bytes, refusal};
 ghost use Rattle.table.specs.Relations.{flags_of};
 ghost use Rattle.table.specs.Tables.{rows_of, Added};
 
 use super::{MOST_ROWS, Table, TableRow};
 use crate::relation::Relation;
-use crate::relation::Relation::{And, Equal, Not, Or};
 use model::refusal::{AddRefusal, MakeRefusal};
 use std::alloc::Global;
 
@@ -16,10 +15,8 @@ impl Table {
     pub fn new(heap: Global) -> Result<Table, MakeRefusal>
         ensures { MatchResult result (λ t. rows_of t ≡ []) (λ e. e ≡ Memory) }
     {
-        match Vec::with_capacity(heap, MOST_ROWS) {
-            Ok(rows) => Ok(Table { rows }),
-            Err(_) => Err(MakeRefusal::Memory),
-        }
+        let rows = Vec::with_capacity(heap, MOST_ROWS)?;
+        Ok(Table { rows })
     }
 
     // Adds a row after the others, or says why not: a flag above 255, a flag that stands twice in the row, a full table, looked at in this
@@ -27,13 +24,8 @@ impl Table {
     pub fn add(&mut self, relation: Relation<usize>) -> Result<(), AddRefusal>
         ensures { Added (refusal (length (rows_of self.old)) relation) relation self.old self.new result }
     {
-        match row_for(relation, self.rows.len()) {
-            Ok(row) => {
-                self.rows.push_reserved(row);
-                Ok(())
-            }
-            Err(refusal) => Err(refusal),
-        }
+        self.rows.push_reserved(row_for(relation, self.rows.len())?);
+        Ok(())
     }
 }
 
@@ -41,9 +33,7 @@ impl Table {
 fn row_for(relation: Relation<usize>, count: usize) -> Result<TableRow, AddRefusal>
     ensures { MatchResult result (λ row. (refusal count relation ≡ None) × (row.relation ≡ relation)) (λ e. refusal count relation ≡ Some e) }
 {
-    let Some(relation) = in_bytes(relation) else {
-        return Err(AddRefusal::Flag);
-    };
+    let relation = Relation::<u8>::try_from(relation)?;
     if names_twice(relation) {
         return Err(AddRefusal::Twice);
     }
@@ -53,16 +43,14 @@ fn row_for(relation: Relation<usize>, count: usize) -> Result<TableRow, AddRefus
     Ok(TableRow { relation })
 }
 
-// The relation with its flags as bytes, if none is above 255.
-fn in_bytes(relation: Relation<usize>) -> Option<Relation<u8>>
-    ensures { result ≡ (if some_large (flags_of relation) then None else Some relation) }
-{
-    match relation {
-        Equal(x, y) if x <= 255 && y <= 255 => Some(Equal(x as u8, y as u8)),
-        Not(x, y) if x <= 255 && y <= 255 => Some(Not(x as u8, y as u8)),
-        And(x, y, z) if x <= 255 && y <= 255 && z <= 255 => Some(And(x as u8, y as u8, z as u8)),
-        Or(x, y, z) if x <= 255 && y <= 255 && z <= 255 => Some(Or(x as u8, y as u8, z as u8)),
-        _ => None,
+// A relation with its flags as bytes, if none is above 255.
+impl TryFrom<Relation<usize>> for Relation<u8> {
+    type Error = AddRefusal;
+
+    ghost try_from_gives = { λ relation r. r ≡ in_bytes relation };
+
+    fn try_from(relation: Relation<usize>) -> Result<Relation<u8>, AddRefusal> {
+        relation.try_map(u8::try_from).map_err(|_| AddRefusal::Flag)
     }
 }
 
@@ -70,8 +58,6 @@ fn in_bytes(relation: Relation<usize>) -> Option<Relation<u8>>
 fn names_twice(relation: Relation<u8>) -> bool
     ensures { result ≡ some_twice (flags_of relation) }
 {
-    match relation {
-        Equal(x, y) | Not(x, y) => x == y,
-        And(x, y, z) | Or(x, y, z) => x == y || x == z || y == z,
-    }
+    let (x, y) = (relation.first(), relation.second());
+    x == y || relation.third().is_some_and(|z| z == x || z == y)
 }

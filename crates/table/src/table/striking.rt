@@ -9,7 +9,6 @@ ghost use Rattle.table.specs.Proper;
 use super::{Table, TableRow};
 use crate::decide::decide;
 use crate::relation::Relation;
-use crate::relation::Relation::{And, Equal, Not, Or};
 use model::book::Book;
 use model::boxes::FlagBox;
 use model::domain::Domain;
@@ -19,12 +18,7 @@ use model::strike::Strike;
 fn sets_of(relation: Relation<u8>, b: &FlagBox) -> Relation<Domain>
     ensures { result ≡ each (at b.now) relation }
 {
-    match relation {
-        Equal(x, y) => Equal(b.get(x), b.get(y)),
-        Not(x, y) => Not(b.get(x), b.get(y)),
-        And(x, y, z) => And(b.get(x), b.get(y), b.get(z)),
-        Or(x, y, z) => Or(b.get(x), b.get(y), b.get(z)),
-    }
+    relation.map(|flag| b.get(flag))
 }
 
 // Gives each flag the set at its place.
@@ -65,16 +59,12 @@ fn narrow(relation: Relation<u8>, b: &mut FlagBox) -> Strike
 fn has_flag(relation: Relation<u8>, flag: usize) -> bool
     ensures { result ≡ elem flag (flags_of relation) }
 {
-    match relation {
-        Equal(x, y) | Not(x, y) => flag == x as usize || flag == y as usize,
-        And(x, y, z) | Or(x, y, z) => flag == x as usize
-            || flag == y as usize
-            || flag == z as usize,
-    }
+    relation.any(|place| usize::from(place) == flag)
 }
 
 impl Table {
     // The number of rows; every one of them has a number.
+    #[tactic(auto, using(crate::proofs::Rows::listed_count))]
     fn len(&self) -> usize
         ensures listed { result ≡ length (listed (rows_of self.now)) }
         ensures few { result ≤ 512 }
@@ -86,7 +76,7 @@ impl Table {
     fn row(&self, number: u16) -> Option<&TableRow>
         ensures { MatchOption result (row_at (rows_of self.now) number ≡ no_row) (λ x. row_at (rows_of self.now) number ≡ row_of x.now.relation) }
     {
-        self.rows.get(number as usize)
+        self.rows.get(usize::from(number))
     }
 }
 
@@ -100,10 +90,7 @@ impl Book for Table {
     }
 
     fn touches(&self, row: u16, flag: usize) -> bool {
-        match self.row(row) {
-            Some(r) => has_flag(r.relation, flag),
-            None => false,
-        }
+        self.row(row).is_some_and(|r| has_flag(r.relation, flag))
     }
 
     fn strike(&self, row: u16, b: &mut FlagBox) -> Strike {
