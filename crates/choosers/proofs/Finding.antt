@@ -13,7 +13,7 @@ use Rattle.std.specs.Fn.{Called}
 use Rattle.std.specs.Iterator.{AlwaysYields, Drains}
 use Rattle.std.specs.Iterator.Adapters.{take_source, take_steps}
 use Rattle.std.specs.List.{fold, FoldsTo, range_with_len, AllWithin, HoldsAt}
-use Rattle.std.specs.Range.{range_inclusive_start, range_inclusive_end, range_inclusive_exhausted, range_inclusive_len}
+use Rattle.std.specs.Range.{range_inclusive_start, range_inclusive_end, range_inclusive_exhausted, range_inclusive_len, range_inclusive_left, range_inclusive_steps}
 use Rattle.std.specs.declared.iter.Take.{Take}
 use Rattle.std.specs.declared.ops.RangeInclusive.{RangeInclusive}
 use denote.Param.Members.{Mut}
@@ -30,15 +30,12 @@ fold_is {steps = steps} {v = v} {g = g} {s = s} {f = f} {all = all} h a r ran ro
     (λ xs c x d q e called. let k = acts c x d q called in (k.1 ∙ ap (λ w. h w (v x)) e ∙ sym (fold_push h a xs (v x)), k.0))
     s all a r road.runs refl ran
 
--- how many numbers are left of a range that has its end
+-- how many numbers a range that has its end has left, and how it gives them
 abbrev pub left_of : RangeInclusive ℕ → ℕ
-left_of s = range_inclusive_len (λ x y. y - x) (range_inclusive_start s) (range_inclusive_end s) (range_inclusive_exhausted s)
+left_of = range_inclusive_left (λ a b. b - a)
 
--- one number of such a range
 abbrev pub steps : RangeInclusive ℕ → Option ℕ → RangeInclusive ℕ → Type 0
-steps s r t =
-    (range_inclusive_end t ≡ range_inclusive_end s)
-    × MatchOption r ((left_of s ≡ 0) × (t ≡ s)) (λ x. (x ≡ range_inclusive_start s) × (left_of t + 1 ≡ left_of s) × (range_inclusive_exhausted t ≡ false → range_inclusive_start t ≡ range_inclusive_start s + 1))
+steps = range_inclusive_steps (λ a b. b - a) (λ a b. b ≡ a + 1)
 
 -- a range that is spent has nothing left
 going : (s : RangeInclusive ℕ) → 0 < left_of s → range_inclusive_exhausted s ≡ false

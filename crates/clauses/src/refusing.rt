@@ -1,5 +1,5 @@
 // Reasons to refuse a clause.
-ghost use Rattle.std.specs.Prelude.{◌≡◌, Some, None, MatchResult};
+ghost use Rattle.std.specs.Prelude.{◌≡◌, Some, None, nat_lt, MatchResult};
 ghost use Rattle.model.specs.Refusals.{some_large, some_twice};
 ghost use Rattle.clauses.specs.Literals.{flags_of};
 ghost use Rattle.clauses.specs.Refusals.{is_full, refusal};
@@ -32,11 +32,18 @@ pub(crate) fn check(
     }
 }
 
+// Whether its flag is above 255.
+fn is_large(literal: &Literal<usize>) -> bool
+    ensures { result ≡ nat_lt 255 literal.now.flag }
+{
+    literal.flag > 255
+}
+
 // Whether some flag is above 255.
 fn names_large(clause: &[Literal<usize>]) -> bool
     ensures { result ≡ some_large (flags_of clause.now) }
 {
-    clause.iter().any(|literal| literal.flag > 255)
+    clause.iter().any(is_large)
 }
 
 // Whether some flag stands there twice. Where no flag is above 255, the walk ends within 256 rounds, however long the clause is.
