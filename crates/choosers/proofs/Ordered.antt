@@ -1,5 +1,5 @@
 -- Why the choosers' picks come in the order that their rules say.
-use Rattle.std.specs.Prelude.{◌≡◌, ℕ, min, Bool, true, false, ◌↔◌, List, Some, None, Option, ◌≢◌, refl}
+use Rattle.std.specs.Prelude.{◌≡◌, ℕ, min, Bool, true, false, ◌↔◌, List, Some, None, Option, refl}
 use Rattle.std.proofs.Common.{sym, ap, subst, inl, inr, arith}
 use Rattle.std.proofs.lemmas.Bool.{cases_eq}
 use Rattle.model.specs.Boxes.{Box}
@@ -9,16 +9,13 @@ use Rattle.choosers.specs.Orders.{NoneChoosable, ComesFirst, RanksFirst, RisingO
 use Rattle.choosers.specs.Found.{After}
 use Rattle.choosers.specs.Standing.{Finds, can_first, lowest_finds, can_rank, highest_finds}
 
-some≢none : {A : Type 0} (x : A) → Some x ≢ None
-some≢none x e = let z : ◌≡◌ {A = ℕ} 0 1 = cc in omega arith
-
 module _ (b : Box) (n : ℕ) (First : ℕ → Type 0) (can : (f : ℕ) → First f → Choosable b n f) where
   finds_none : (v : Bool) (r : Option ℕ) → Finds b n First can r → (tried v r ≡ None) ↔ NoneChoosable b n
   finds_none v None h = ((λ _. h), λ _. refl)
-  finds_none v (Some f) h = ((λ e. absurd (some≢none (f, v) e)), λ p. absurd (p f (can f h)))
+  finds_none v (Some f) h = ((λ e. cc), λ p. absurd (p f (can f h)))
 
   finds_picked : ((f g : ℕ) → First f → First g → f ≡ g) → (v : Bool) (r : Option ℕ) → Finds b n First can r → (f : ℕ) (w : Bool) → (tried v r ≡ Some (f, w)) ↔ ((w ≡ v) × First f)
-  finds_picked one v None h f w = ((λ e. absurd (some≢none (f, w) (sym e))), λ p. absurd (h f (can f p.1)))
+  finds_picked one v None h f w = ((λ e. cc), λ p. absurd (h f (can f p.1)))
   finds_picked one v (Some g) h f w = (
     (λ e. let i : ◌≡◌ {A = ℕ × Bool} (g, v) (f, w) = cc in (sym (ap (λ (x : ℕ × Bool). x.1) i), subst First (ap (λ (x : ℕ × Bool). x.0) i) h)),
     λ p. let i : g ≡ f = one g f h p.1 in let j : w ≡ v = p.0 in cc,

@@ -1,4 +1,5 @@
 pub mod Choices
+pub mod Flags
 pub mod Found
 pub mod Orders
 pub mod Standing

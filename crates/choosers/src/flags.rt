@@ -1,15 +1,18 @@
-ghost use Rattle.std.specs.Prelude.{◌≡◌, min};
+ghost use Rattle.std.specs.Prelude.{◌≡◌};
 ghost use Rattle.model.specs.View.{at};
 ghost use Rattle.choosers.specs.Choices.{is_open, tried};
+ghost use Rattle.choosers.specs.Flags.{FlagsBelow};
 
 use model::boxes::FlagBox;
 use model::domain::Domain;
+use std::iter::Take;
+use std::ops::RangeInclusive;
 
-// Where the flags end that count: a box has 256, whatever n is.
-pub fn end_of(n: usize) -> usize
-    ensures { result ≡ min n 256 }
+// The flags that count, the lowest first: a box has 256, whatever n is.
+pub fn flags_below(n: usize) -> Take<RangeInclusive<u8>>
+    ensures { FlagsBelow n result }
 {
-    n.min(256)
+    (0..=u8::MAX).take(n)
 }
 
 // Whether a flag may still have both values.
@@ -23,8 +26,5 @@ pub fn is_open(b: &FlagBox, flag: u8) -> bool
 pub fn with_value(flag: Option<u8>, value: bool) -> Option<(usize, bool)>
     ensures { result ≡ tried value flag }
 {
-    match flag {
-        Some(f) => Some((f as usize, value)),
-        None => None,
-    }
+    flag.map(|f| (usize::from(f), value))
 }

@@ -3,14 +3,14 @@ ghost use Rattle.model.specs.View.{at};
 ghost use Rattle.choosers.specs.Choices.{better, highest, ranked};
 ghost use Rattle.choosers.specs.Standing.{ranked_lawful};
 
-use crate::flags::{end_of, is_open, with_value};
+use crate::flags::{flags_below, is_open, with_value};
 use model::boxes::FlagBox;
 use model::chooser::Chooser;
 
 // A chooser that keeps a rank for each flag: it picks the open flag of the highest rank, the lower flag among equals, and 1 first.
 #[derive(Clone, Copy)]
 pub struct Ranked {
-    ranks: [u8; 256],
+    pub ranks: [u8; 256],
 }
 
 impl Ranked {
@@ -36,14 +36,9 @@ impl Ranked {
     fn highest_open(&self, b: &FlagBox, n: usize) -> Option<u8>
         ensures { result ≡ highest self.now.ranks (at b.now) (min n 256) }
     {
-        let mut best = None;
-        for flag in 0..end_of(n) {
-            let flag = flag as u8;
-            if is_open(b, flag) {
-                best = Some(self.better(best, flag));
-            }
-        }
-        best
+        flags_below(n)
+            .filter(|&flag| is_open(b, flag))
+            .fold(None, |best, flag| Some(self.better(best, flag)))
     }
 }
 

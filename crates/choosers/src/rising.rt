@@ -3,7 +3,7 @@ ghost use Rattle.model.specs.View.{at};
 ghost use Rattle.choosers.specs.Choices.{lowest, rising};
 ghost use Rattle.choosers.specs.Standing.{rising_lawful};
 
-use crate::flags::{end_of, is_open, with_value};
+use crate::flags::{flags_below, is_open, with_value};
 use model::boxes::FlagBox;
 use model::chooser::Chooser;
 
@@ -15,13 +15,7 @@ pub struct Rising;
 fn lowest_open(b: &FlagBox, n: usize) -> Option<u8>
     ensures { result ≡ lowest (at b.now) (min n 256) }
 {
-    for flag in 0..end_of(n) {
-        let flag = flag as u8;
-        if is_open(b, flag) {
-            return Some(flag);
-        }
-    }
-    None
+    flags_below(n).find(|&flag| is_open(b, flag))
 }
 
 impl Chooser for Rising {

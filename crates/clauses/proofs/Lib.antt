@@ -1,4 +1,5 @@
 pub mod Looking
+pub mod Naming
 pub mod Numbered
 pub mod Putting
 pub mod Stand

@@ -1,16 +1,16 @@
 -- The walks over the literals of a clause, one literal more.
-use Rattle.std.proofs.Common.{◌≡◌, ℕ, zero, suc, ◌+◌, ◌-◌, ◌<◌, ◌≤◌, Bool, true, false, cond, ◌||◌, eqb, List, [], ◌∷◌, ◌++◌, length, get_or, take, drop, Some, None, sym, refl, ap, ◌∙◌, subst, ⊎_elim, le_of_suc-le-suc, not-suc-le-zero, arith}
+use Rattle.std.proofs.Common.{◌≡◌, ℕ, zero, suc, ◌+◌, ◌<◌, Bool, true, false, cond, ◌||◌, eqb, List, [], ◌∷◌, ◌++◌, length, get_or, take, Some, None, sym, refl, ap, ◌∙◌, subst, ⊎_elim, le_of_suc-le-suc, not-suc-le-zero}
 use mathlib.Core.Path.{fun_ext}
 use Rattle.std.proofs.lemmas.List.Elements.{filter_more}
-use Rattle.std.proofs.lemmas.List.{append-nil, at_drop_more, at_drop_all, map_more, take_all, take_more, take_rest}
+use Rattle.std.proofs.lemmas.List.{append-nil, map_more, take_more}
 use Rattle.std.proofs.lemmas.Bool.{cases_Bool, cond-true, cond-false, or_from, or_left, or_parts, or_right}
 use Rattle.model.specs.Boxes.{Box, with_set}
-use Rattle.model.specs.Domains.{has}
+use Rattle.model.specs.Domains.{has, is_empty}
 use Rattle.model.specs.Rows.{elem}
 use Rattle.model.specs.declared.domain.Domain.{Domain}
 use Rattle.model.specs.declared.domain.Domain.TheVariants.{Empty}
 use Rattle.clauses.specs.Literals.{flag_of, flags_of}
-use Rattle.clauses.specs.Outlooks.{can, possible, is_empty, some_empty, by_number, outlook_of, one_more, looked, emptied}
+use Rattle.clauses.specs.Outlooks.{can, possible, some_empty, by_number, outlook_of, one_more, looked, emptied}
 use Rattle.clauses.specs.declared.clause.Outlook.{Outlook}
 use Rattle.clauses.specs.declared.clause.Outlook.TheVariants.{Dead}
 use Rattle.clauses.specs.declared.literal.Literal.{Literal}
@@ -18,24 +18,6 @@ use Rattle.clauses.specs.declared.literal.Literal.{Literal}
 -- what stands for a literal where there is none
 abbrev pub blank : Literal ℕ
 blank = record { flag = 0; positive = false }
-
--- a test that each literal may decide, and else those after it
-module _ (F : List (Literal ℕ) → Bool) (t : Literal ℕ → List (Literal ℕ) → Bool) (step : (l : Literal ℕ) (ls : List (Literal ℕ)) → F (l ∷ ls) ≡ (t l ls || F ls)) (ls : List (Literal ℕ)) (i : ℕ) (left : F (drop i ls) ≡ F ls) where
-  more : i < length ls → (t (get_or ls i blank) (drop (i + 1) ls) || F (drop (i + 1) ls)) ≡ F ls
-  more h = sym (step (get_or ls i blank) (drop (i + 1) ls)) ∙ sym (at_drop_more F ls i blank h) ∙ left
-
-  pub decided_here : i < length ls → true ≡ t (get_or ls i blank) (drop (i + 1) ls) → true ≡ F ls
-  decided_here h e = sym (or_left (t (get_or ls i blank) (drop (i + 1) ls)) (F (drop (i + 1) ls)) (sym e)) ∙ more h
-
-  pub decided_later : i < length ls → false ≡ t (get_or ls i blank) (drop (i + 1) ls) → F (drop (i + 1) ls) ≡ F ls
-  decided_later h e = ap (λ x. x || F (drop (i + 1) ls)) e ∙ more h
-
-  pub decided_never : F [] ≡ false → length ls ≤ i → false ≡ F ls
-  decided_never none h = sym none ∙ sym (at_drop_all F ls i h) ∙ left
-
--- a flag against those after it
-pub rest_has : (f : ℕ) (ls : List (Literal ℕ)) (i : ℕ) → elem f (flags_of (take (length ls - i) (drop i ls))) ≡ elem f (flags_of (drop i ls))
-rest_has f ls i = ap (λ ms. elem f (flags_of ms)) (take_rest ls i)
 
 -- emptying the flags
 elem_push : (f g : ℕ) (fs : List ℕ) → elem f (fs ++ g ∷ []) ≡ (eqb f g || elem f fs)
@@ -59,9 +41,6 @@ emptied_more ls i b mid after h m e =
     e ∙ ap (λ x. with_set x (get_or ls i blank).flag Empty) m ∙ emptied_push (flags_of (take i ls)) (get_or ls i blank).flag b
     ∙ ap (λ fs. emptied fs b) (sym (map_more flag_of ls i blank h))
 
-pub emptied_all : (ls : List (Literal ℕ)) (i : ℕ) (b after : Box) → length ls ≤ i → after ≡ emptied (flags_of (take i ls)) b → after ≡ emptied (flags_of ls) b
-emptied_all ls i b after h e = e ∙ ap (λ ms. emptied (flags_of ms) b) (take_all i ls h)
-
 -- the survey
 by_number_push : (ps : List (Literal ℕ)) (l : Literal ℕ) → by_number (ps ++ l ∷ []) ≡ one_more (by_number ps) l
 by_number_push [] l = refl
@@ -83,12 +62,12 @@ some_empty_at b (l ∷ ls) (suc i) h e = or_right (is_empty (b l.flag)) (some_em
 looked_none : (d : Domain) (seen : Outlook) (l : Literal ℕ) → None ≡ looked d seen l → is_empty d ≡ true
 looked_none d seen l h = ⊎_elim
     (λ e. e)
-    (λ e. absurd (let x = cond-false (is_empty d) None (Some (cond (has d l.positive) (one_more seen l) seen)) e in let z : ◌≡◌ {A = ℕ} 0 1 = cc in let w : ⊥ = omega arith in w))
+    (λ e. let x = cond-false (is_empty d) None (Some (cond (has d l.positive) (one_more seen l) seen)) e in cc)
     (cases_Bool (is_empty d))
 
 looked_some : (d : Domain) (seen more : Outlook) (l : Literal ℕ) → Some more ≡ looked d seen l → (is_empty d ≡ false) × (more ≡ cond (has d l.positive) (one_more seen l) seen)
 looked_some d seen more l h = ⊎_elim
-    (λ e. absurd (let x = cond-true (is_empty d) None (Some (cond (has d l.positive) (one_more seen l) seen)) e in let z : ◌≡◌ {A = ℕ} 0 1 = cc in let w : ⊥ = omega arith in w))
+    (λ e. absurd (let x = cond-true (is_empty d) None (Some (cond (has d l.positive) (one_more seen l) seen)) e in cc))
     (λ e. (e, let x = cond-false (is_empty d) None (Some (cond (has d l.positive) (one_more seen l) seen)) e in cc))
     (cases_Bool (is_empty d))
 
@@ -110,8 +89,3 @@ module _ (b : Box) (ls : List (Literal ℕ)) (i : ℕ) (seen : Outlook) where
 
   pub look_none : i < length ls → None ≡ looked (b (get_or ls i blank).flag) seen (get_or ls i blank) → Dead ≡ outlook_of b ls
   look_none h n = sym (cond-true (some_empty b ls) Dead (by_number (possible b ls)) (some_empty_at b ls i h (looked_none (b (get_or ls i blank).flag) seen (get_or ls i blank) n)))
-
-  pub look_all : length ls ≤ i → (some_empty b (take i ls) ≡ false) × (seen ≡ by_number (possible b (take i ls))) → seen ≡ outlook_of b ls
-  look_all h inv =
-      let e = take_all i ls h in
-      inv.1 ∙ ap (λ ms. by_number (possible b ms)) e ∙ sym (cond-false (some_empty b ls) Dead (by_number (possible b ls)) (ap (some_empty b) (sym e) ∙ inv.0))

@@ -1,6 +1,6 @@
 -- A clause put into the store of literals.
-use Rattle.std.proofs.Common.{◌≡◌, ℕ, zero, suc, ◌+◌, ◌<◌, ◌≤◌, Bool, true, false, cond, eqb, ltb, leb, List, [], ◌∷◌, ◌++◌, length, get_or, take, Some, None, Ok, Err, Option, Result, sym, refl, ap, ◌∙◌, subst, le_of_suc-le-suc, not-suc-le-zero, arith, MatchResult}
-use Rattle.std.proofs.lemmas.List.{append_assoc, length-append, length_push, length-take-le, nil_from_length, take_all, take_more}
+use Rattle.std.proofs.Common.{◌≡◌, ℕ, zero, suc, ◌+◌, ◌<◌, ◌≤◌, Bool, true, false, cond, eqb, ltb, leb, List, [], ◌∷◌, ◌++◌, length, get_or, take, Some, None, Ok, Err, Result, sym, refl, ap, ◌∙◌, subst, le_of_suc-le-suc, not-suc-le-zero, arith, MatchResult}
+use Rattle.std.proofs.lemmas.List.{length-append, length_push, length-take-le, nil_from_length}
 use Rattle.std.proofs.lemmas.Bool.{and_from, and_parts, leb-false, ltb-false, not_from_false, or_parts}
 use Rattle.model.specs.Refusals.{some_large, some_twice}
 use Rattle.model.specs.declared.refusal.AddRefusal.{AddRefusal}
@@ -8,16 +8,11 @@ use Rattle.model.specs.declared.refusal.AddRefusal.TheVariants.{Flag, Twice, Ful
 use Rattle.ragged.specs.Lists.{lists_of, open_of, list_room, item_room, item_count, Roomier}
 use Rattle.ragged.specs.Parts.{total_length}
 use Rattle.ragged.specs.declared.store.Lists.{Lists}
-use Rattle.clauses.specs.Books.{clauses_of, Added}
 use Rattle.clauses.specs.Literals.{flags_of}
 use Rattle.clauses.specs.Refusals.{is_full, refusal, is_sound, all_sound}
 use Rattle.clauses.specs.Stores.{Pushes, PushesAll, Puts}
-use Rattle.clauses.specs.declared.clauses.Clauses.{Clauses}
 use Rattle.clauses.specs.declared.literal.Literal.{Literal}
 use Rattle.clauses.proofs.Looking.{blank}
-
-pub roomier_same : (s : Lists (Literal ℕ)) → Roomier s s
-roomier_same s = record { list_memory = omega arith; item_memory = omega arith }
 
 pub roomier_more : (s t u : Lists (Literal ℕ)) → Roomier s t → Roomier t u → Roomier s u
 roomier_more s t u p q = record {
@@ -34,41 +29,27 @@ small_at (l ∷ ls) (suc i) h s = small_at ls i (le_of_suc-le-suc h) (or_parts (
 abbrev pub Pushed : List (Literal ℕ) → ℕ → Lists (Literal ℕ) → Lists (Literal ℕ) → Type 0
 Pushed ls i before mid = (lists_of mid ≡ lists_of before) × Roomier before mid × (open_of mid ≡ open_of before ++ take i ls)
 
-module _ (ls : List (Literal ℕ)) (i : ℕ) (before mid : Lists (Literal ℕ)) (inv : Pushed ls i before mid) where
-  module _ (after : Lists (Literal ℕ)) (h : i < length ls) where
-    pub pushed_more : Pushes (get_or ls i blank) mid after (Ok tt) → Pushed ls (i + 1) before after
-    pushed_more p = (
-      p.lists ∙ inv.0,
-      roomier_more before mid after inv.1 p.room,
-      p.last ∙ ap (λ xs. xs ++ get_or ls i blank ∷ []) inv.2 ∙ append_assoc (open_of before) (take i ls) (get_or ls i blank ∷ []) ∙ ap (λ xs. open_of before ++ xs) (sym (take_more ls i blank h)),
-    )
-
-    pub push_refused : (d e : AddRefusal) → Pushes (get_or ls i blank) mid after (Err d) → PushesAll ls before after (Err e)
-    push_refused d e p = record {
-      lists = p.lists ∙ inv.0;
-      room = roomier_more before mid after inv.1 p.room;
-      last = λ small fits. p.last (small_at ls i h small)
-          (let a : length (open_of mid) ≡ length (open_of before) + i = ap length inv.2 ∙ length-append (open_of before) (take i ls) ∙ ap (λ n. length (open_of before) + n) (length-take-le i ls (omega arith)) in
-          let b : total_length (lists_of mid) ≡ total_length (lists_of before) = ap total_length inv.0 in
-          let r : item_room before ≤ item_room mid = inv.1.item_memory in
-          omega arith);
-    }
-
-  pub pushed_all : length ls ≤ i → PushesAll ls before mid (Ok tt)
-  pushed_all h = record { lists = inv.0; room = inv.1; last = inv.2 ∙ ap (λ xs. open_of before ++ xs) (take_all i ls h) }
+-- where one more cannot be pushed, not all can
+pub push_refused : (ls : List (Literal ℕ)) (i : ℕ) (before mid after : Lists (Literal ℕ)) → Pushed ls i before mid → i < length ls → (e : AddRefusal) → Pushes (get_or ls i blank) mid after (Err e) → PushesAll ls before after (Err e)
+push_refused ls i before mid after inv h e p = record {
+  lists = p.lists ∙ inv.0;
+  room = roomier_more before mid after inv.1 p.room;
+  last = λ small fits. p.last (small_at ls i h small)
+      (let a : length (open_of mid) ≡ length (open_of before) + i = ap length inv.2 ∙ length-append (open_of before) (take i ls) ∙ ap (λ n. length (open_of before) + n) (length-take-le i ls (omega arith)) in
+      let b : total_length (lists_of mid) ≡ total_length (lists_of before) = ap total_length inv.0 in
+      let r : item_room before ≤ item_room mid = inv.1.item_memory in
+      omega arith);
+}
 
 -- a clause that nothing speaks against
 none_parts : (n m : ℕ) (ls : List (Literal ℕ)) → refusal n m ls ≡ None → (eqb (length ls) 0 ≡ false) × (some_large (flags_of ls) ≡ false) × (some_twice (flags_of ls) ≡ false) × (is_full n m (length ls) ≡ false)
 none_parts n m ls = four (eqb (length ls) 0) (some_large (flags_of ls)) (some_twice (flags_of ls)) (is_full n m (length ls))
   where
-    never : (e : AddRefusal) → ◌≡◌ {A = Option AddRefusal} (Some e) None → ⊥
-    never e q = let z : ◌≡◌ {A = ℕ} 0 1 = cc in omega arith
-
     four : (a b c d : Bool) → cond a (Some NoLiteral) (cond b (Some Flag) (cond c (Some Twice) (cond d (Some Full) None))) ≡ None → (a ≡ false) × (b ≡ false) × (c ≡ false) × (d ≡ false)
-    four true b c d q = absurd (never NoLiteral q)
-    four false true c d q = absurd (never Flag q)
-    four false false true d q = absurd (never Twice q)
-    four false false false true q = absurd (never Full q)
+    four true b c d q = cc
+    four false true c d q = cc
+    four false false true d q = cc
+    four false false false true q = cc
     four false false false false q = (refl, refl, refl, refl)
 
 total_push : (lss : List (List (Literal ℕ))) (ls : List (Literal ℕ)) → total_length (lss ++ ls ∷ []) ≡ total_length lss + length ls
@@ -112,15 +93,3 @@ module _ (before after : Lists (Literal ℕ)) (ls : List (Literal ℕ)) (answer 
           let x = puts.room.item_memory in omega arith,
           subst (λ lss. all_sound lss ≡ true) (sym e) (sound_push (lists_of before) ls sound (and_from _ _ (not_from_false _ parts.0) (and_from _ _ (not_from_false _ parts.1) (not_from_false _ parts.2)))),
         )
-
--- adding, by the refusal that the clauses held give
-counted : (c : Clauses) (ls : List (Literal ℕ)) (n m : ℕ) → n ≡ length (clauses_of c) → m ≡ item_count c.lists → refusal (length (clauses_of c)) (total_length (clauses_of c)) ls ≡ refusal n m ls
-counted c ls n m lists literals =
-    let k = c.closed in
-    let e : total_length (clauses_of c) ≡ m = omega arith in
-    ap (λ x. refusal x (total_length (clauses_of c)) ls) (sym lists) ∙ ap (λ x. refusal n x ls) e
-
-pub added : (c d : Clauses) (ls : List (Literal ℕ)) (n m : ℕ) (answer : Result (Unit {0}) AddRefusal) → n ≡ length (clauses_of c) → m ≡ item_count c.lists → refusal n m ls ≡ None → Puts ls c.lists d.lists answer → Added (refusal (length (clauses_of c)) (total_length (clauses_of c)) ls) ls c d answer
-added c d ls n m answer lists literals why puts =
-    let s = stored c.lists d.lists ls answer puts n m lists literals why c.closed c.clause_room c.literal_room in
-    subst (λ o. Added o ls c d answer) (sym (counted c ls n m lists literals ∙ why)) (s.0, s.1)

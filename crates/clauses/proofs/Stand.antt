@@ -1,10 +1,11 @@
 -- The rule of a clause stands.
-use Rattle.std.proofs.Common.{◌≡◌, ℕ, Bool, List, sym, ap, ◌∙◌, subst, ⊎_elim}
+use Rattle.std.proofs.Common.{◌≡◌, ℕ, Bool, true, false, List, ◌≢◌, sym, ap, ◌∙◌, subst, ⊎_elim}
 use Rattle.model.specs.Boxes.{Box}
 use Rattle.model.specs.Domains.{Has, only, cut_set}
 use Rattle.model.specs.Facts.{cut}
 use Rattle.model.specs.Strikes.{Strikes}
 use Rattle.model.specs.declared.domain.Domain.{Domain}
+use Rattle.model.specs.declared.domain.Domain.TheVariants.{Empty}
 use Rattle.model.specs.declared.strike.Strike.{Strike}
 use Rattle.model.specs.declared.strike.Strike.TheVariants.{Unchanged, Changed}
 use Rattle.model.proofs.Sets.{same_sets, set_decides, has-only, only_has, has-cut, cut_has}
@@ -30,14 +31,20 @@ dies ls before after answer some s none =
     let q = fixed ls before after _ answer _ s (struck_dead ls before some (⊎_elim (none_empty ls before) (none_true ls before) none)) in
     (q.1, λ f o. ap (λ b. b f) q.0 ∙ gone ls before f o)
 
+-- a set of one value is not empty
+only_some : (v : Bool) → only v ≢ Empty
+only_some false q = cc
+only_some true q = cc
+
 forces : ClauseForces
 forces ls before after answer s full l there alone =
     let left = cut before l.flag l.positive in
     let here = cut_only (before l.flag) l.positive there.1 in
+    let some : cut_set (before l.flag) l.positive ≢ Empty = λ q. only_some l.positive (sym here ∙ q) in
     let struck = struck_forced ls before full l there alone in
     ⊎_elim
-    (λ e. let q = fixed ls before after left answer Unchanged s (struck Unchanged (here ∙ sym e)) in (q.0, (λ _. q.1), λ n. absurd (n e)))
-    (λ n. let q = fixed ls before after left answer Changed s (struck Changed (λ x. n (sym x ∙ here))) in (q.0, (λ e. absurd (n e)), λ _. q.1))
+    (λ e. let q = fixed ls before after left answer Unchanged s (struck Unchanged (some, here ∙ sym e)) in (q.0, (λ _. q.1), λ n. absurd (n e)))
+    (λ n. let q = fixed ls before after left answer Changed s (struck Changed (some, λ x. n (sym x ∙ here))) in (q.0, (λ e. absurd (n e)), λ _. q.1))
     (set_decides (before l.flag) (only l.positive))
 
 rests : ClauseRests

@@ -3,11 +3,11 @@ use Rattle.std.proofs.Common.{◌≡◌, ℕ, ◌<◌, Bool, true, false, cond, 
 use mathlib.Core.Bool.{beq}
 use Rattle.std.proofs.lemmas.Bool.{cases_Bool, cases_eq, both_ways, cond-true, cond-false, eq-eqb, eqb-true, ne_eqb, or_cases, or_left, or_right, or_from, or_parts, true≢false, false≢true}
 use Rattle.model.specs.Boxes.{Box, Supported}
-use Rattle.model.specs.Domains.{has, Has, cut_set}
+use Rattle.model.specs.Domains.{has, Has, is_empty, cut_set}
 use Rattle.model.specs.Facts.{cut}
 use Rattle.model.specs.Refusals.{some_twice}
 use Rattle.model.specs.Rows.{Valuation, elem, On}
-use Rattle.model.specs.Strikes.{Struck, Emptied, Says, Strikes}
+use Rattle.model.specs.Strikes.{Struck, Emptied, Says, Strikes, CutSays}
 use Rattle.model.specs.declared.domain.Domain.{Domain}
 use Rattle.model.specs.declared.domain.Domain.TheVariants.{Empty, Zero, One, Open}
 use Rattle.model.specs.declared.strike.Strike.{Strike}
@@ -18,7 +18,7 @@ use Rattle.model.proofs.Revise.{beq_true, beq_refl}
 use Rattle.model.proofs.Sets.{has-cut, cut_has}
 use Rattle.model.proofs.Striking.{off}
 use Rattle.clauses.specs.Literals.{flag_of, flags_of, some_true, row_of}
-use Rattle.clauses.specs.Outlooks.{can, possible, is_empty, some_empty, by_number, outlook_of, emptied, CutSays, Acts}
+use Rattle.clauses.specs.Outlooks.{can, possible, some_empty, by_number, outlook_of, emptied, Acts}
 use Rattle.clauses.specs.UnitRule.{Among, CanBeTrue}
 use Rattle.clauses.specs.declared.clause.Outlook.TheVariants.{Dead}
 use Rattle.clauses.specs.declared.literal.Literal.{Literal}
@@ -264,9 +264,9 @@ module _ (ls : List (Literal ℕ)) (b : Box) where
       forced_same h f = ⊎_elim (λ q. ap (cut b l.flag l.positive) q ∙ cut_here ∙ h ∙ ap b (sym q)) (cut_other f) (cases_eq f l.flag)
 
       forced_says : (a : Strike) → CutSays a (b l.flag) (cut_set (b l.flag) l.positive) → Says a (row_of ls) b (cut b l.flag l.positive)
-      forced_says strike.Unchanged h = (forced_alive, forced_same h)
-      forced_says strike.Changed h = (forced_alive, (l.flag, among_flag ls l there.0, λ q. h (sym cut_here ∙ q)))
-      forced_says strike.Dead h = absurd h
+      forced_says strike.Unchanged h = (forced_alive, forced_same h.1)
+      forced_says strike.Changed h = (forced_alive, (l.flag, among_flag ls l there.0, λ q. h.1 (sym cut_here ∙ q)))
+      forced_says strike.Dead h = (l.flag, among_flag ls l there.0, cut_here ∙ h)
 
       pub struck_forced : (a : Strike) → CutSays a (b l.flag) (cut_set (b l.flag) l.positive) → Strikes (row_of ls) b (cut b l.flag l.positive) a
       struck_forced a h = record { left = forced_left; says = forced_says a h }

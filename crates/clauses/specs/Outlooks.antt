@@ -1,11 +1,12 @@
 -- What the literals of a clause can still do in a box, and what a strike does then.
-use Rattle.std.specs.Prelude.{◌≡◌, ℕ, Bool, true, false, cond, ◌||◌, List, [], ◌∷◌, Some, None, filter, Option}
+use Rattle.std.specs.Prelude.{◌≡◌, ℕ, Bool, false, cond, ◌||◌, List, [], ◌∷◌, Some, None, filter, Option}
 use Rattle.model.specs.Boxes.{Box}
-use Rattle.model.specs.Domains.{has, cut_set}
+use Rattle.model.specs.Domains.{has, is_empty, cut_set}
 use Rattle.model.specs.Facts.{cut}
 use Rattle.model.specs.Rows.{elem}
+use Rattle.model.specs.Strikes.{CutSays}
 use Rattle.model.specs.declared.domain.Domain.{Domain}
-use Rattle.model.specs.declared.domain.Domain.TheVariants.{Empty, Zero, One, Open}
+use Rattle.model.specs.declared.domain.Domain.TheVariants.{Empty}
 use Rattle.model.specs.declared.strike.Strike.{Strike}
 use Rattle.model.specs.declared.strike.Strike.TheVariants as strike
 use Rattle.clauses.specs.declared.clause.Outlook.{Outlook}
@@ -19,12 +20,6 @@ can b l = has (b l.flag) l.positive
 -- the literals that can be true
 abbrev pub possible : Box → List (Literal ℕ) → List (Literal ℕ)
 possible b ls = filter (can b) ls
-
-abbrev pub is_empty : Domain → Bool
-is_empty Empty = true
-is_empty Zero = false
-is_empty One = false
-is_empty Open = false
 
 -- some flag has no value left
 abbrev pub some_empty : Box → List (Literal ℕ) → Bool
@@ -54,12 +49,6 @@ looked d seen l = cond (is_empty d) None (Some (cond (has d l.positive) (one_mor
 -- a box in which some flags have no value left
 abbrev pub emptied : List ℕ → Box → Box
 emptied fs b f = cond (elem f fs) Empty (b f)
-
--- the answer where a flag's set was cut down to a value that it had
-abbrev pub CutSays : Strike → Domain → Domain → Type 0
-CutSays strike.Unchanged before after = after ≡ before
-CutSays strike.Changed before after = after ≡ before → ⊥
-CutSays strike.Dead before after = ⊥
 
 -- a literal was made true
 pub record Forces (l : Literal ℕ) (before after : Box) (answer : Strike) : Type 0 where

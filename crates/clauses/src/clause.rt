@@ -1,13 +1,12 @@
 // Striking one clause.
-ghost use Rattle.std.specs.Prelude.{◌≡◌, ◌<◌, false, length, ◌==◌};
+ghost use Rattle.std.specs.Prelude.{◌≡◌, ◌<◌, false, length};
 ghost use Rattle.model.specs.Boxes.{with_set};
 ghost use Rattle.model.specs.Refusals.{some_twice};
-ghost use Rattle.model.specs.Rows.{elem};
 ghost use Rattle.model.specs.Strikes.{Strikes};
 ghost use Rattle.model.specs.View.{at};
 ghost use Rattle.model.specs.declared.domain.Domain.TheVariants.{Empty};
 ghost use Rattle.clauses.specs.Literals.{flags_of, row_of};
-ghost use Rattle.clauses.specs.Outlooks.{one_more, looked, outlook_of, emptied, Forces, Acts};
+ghost use Rattle.clauses.specs.Outlooks.{one_more, looked, outlook_of, emptied, Acts};
 
 use crate::literal::Literal;
 use model::boxes::FlagBox;
@@ -79,19 +78,6 @@ fn empty_all(clause: &[Literal<u8>], b: &mut FlagBox)
     }
 }
 
-// Makes the literal true.
-fn force(literal: Literal<u8>, b: &mut FlagBox) -> Strike
-    ensures { Forces literal (at b.old) (at b.new) result }
-{
-    let before = b.get(literal.flag);
-    let after = b.cut(literal.flag, literal.positive);
-    if after == before {
-        Strike::Unchanged
-    } else {
-        Strike::Changed
-    }
-}
-
 // Does what the outlook of a clause asks for.
 fn act(outlook: Outlook, clause: &[Literal<u8>], b: &mut FlagBox) -> Strike
     ensures { Acts outlook (flags_of clause.now) (at b.old) (at b.new) result }
@@ -101,7 +87,7 @@ fn act(outlook: Outlook, clause: &[Literal<u8>], b: &mut FlagBox) -> Strike
             empty_all(clause, b);
             Strike::Dead
         }
-        Outlook::Forced(literal) => force(literal, b),
+        Outlook::Forced(literal) => b.force(literal.into()),
         Outlook::Free => Strike::Unchanged,
     }
 }
@@ -112,23 +98,4 @@ pub(crate) fn strike_clause(clause: &[Literal<u8>], b: &mut FlagBox) -> Strike
 {
     let outlook = survey(clause, b);
     act(outlook, clause, b)
-}
-
-// Whether the literal is of the flag, whatever its sign.
-fn is_of(literal: Literal<u8>, flag: usize) -> bool
-    ensures { result ≡ (flag == literal.flag) }
-{
-    flag == literal.flag as usize
-}
-
-// Whether some literal of the clause is of the flag.
-pub(crate) fn touches_clause(clause: &[Literal<u8>], flag: usize) -> bool
-    ensures { result ≡ elem flag (flags_of clause.now) }
-{
-    for literal in clause {
-        if is_of(*literal, flag) {
-            return true;
-        }
-    }
-    false
 }

@@ -1,55 +1,40 @@
 // Reasons to refuse a clause.
-ghost use Rattle.std.specs.Prelude.{◌≡◌, if◌then◌else◌, Some, None, ◌==◌, nat_lt};
+ghost use Rattle.std.specs.Prelude.{◌≡◌, Some, None, nat_lt, MatchResult};
 ghost use Rattle.model.specs.Refusals.{some_large, some_twice};
-ghost use Rattle.model.specs.Rows.{elem};
 ghost use Rattle.clauses.specs.Literals.{flags_of};
 ghost use Rattle.clauses.specs.Refusals.{is_full, refusal};
 
-use crate::literal::Literal;
+use crate::literal::{Literal, names};
 use model::refusal::AddRefusal;
 
 pub(crate) const MOST_CLAUSES: usize = 512;
 
 pub(crate) const MOST_LITERALS: usize = 2048;
 
-// Why a clause is not added where so many clauses and literals are held.
-pub(crate) fn reason(
+// Checks that a clause may be added where so many clauses and literals are held.
+pub(crate) fn check(
     clause: &[Literal<usize>],
     clauses: usize,
     literals: usize,
-) -> Option<AddRefusal>
-    ensures { result ≡ refusal clauses literals clause.now }
+) -> Result<(), AddRefusal>
+    ensures { MatchResult result (λ _. refusal clauses literals clause.now ≡ None) (λ e. refusal clauses literals clause.now ≡ Some e) }
 {
     if clause.is_empty() {
-        Some(AddRefusal::NoLiteral)
+        Err(AddRefusal::NoLiteral)
     } else if names_large(clause) {
-        Some(AddRefusal::Flag)
+        Err(AddRefusal::Flag)
     } else if names_twice(clause) {
-        Some(AddRefusal::Twice)
+        Err(AddRefusal::Twice)
     } else if lacks_room(clauses, literals, clause.len()) {
-        Some(AddRefusal::Full)
+        Err(AddRefusal::Full)
     } else {
-        None
-    }
-}
-
-// The literal with its flag as a byte, if that is not above 255.
-pub(crate) fn in_bytes(literal: Literal<usize>) -> Option<Literal<u8>>
-    ensures { result ≡ (if nat_lt 255 literal.flag then None else Some literal) }
-{
-    if is_large(literal) {
-        None
-    } else {
-        Some(Literal {
-            flag: literal.flag as u8,
-            positive: literal.positive,
-        })
+        Ok(())
     }
 }
 
 // Whether its flag is above 255.
-fn is_large(literal: Literal<usize>) -> bool
-    ensures { result ≡ nat_lt 255 literal.flag }
+fn is_large(literal: &Literal<usize>) -> bool
+    ensures { result ≡ nat_lt 255 literal.now.flag }
 {
     literal.flag > 255
 }
@@ -58,43 +43,17 @@ fn is_large(literal: Literal<usize>) -> bool
 fn names_large(clause: &[Literal<usize>]) -> bool
     ensures { result ≡ some_large (flags_of clause.now) }
 {
-    for literal in clause {
-        if is_large(*literal) {
-            return true;
-        }
-    }
-    false
-}
-
-// Whether the literal is of the flag, whatever its sign.
-fn is_of(literal: Literal<usize>, flag: usize) -> bool
-    ensures { result ≡ (flag == literal.flag) }
-{
-    flag == literal.flag
-}
-
-// Whether some literal is of the flag.
-fn names(clause: &[Literal<usize>], flag: usize) -> bool
-    ensures { result ≡ elem flag (flags_of clause.now) }
-{
-    for literal in clause {
-        if is_of(*literal, flag) {
-            return true;
-        }
-    }
-    false
+    clause.iter().any(is_large)
 }
 
 // Whether some flag stands there twice. Where no flag is above 255, the walk ends within 256 rounds, however long the clause is.
 fn names_twice(clause: &[Literal<usize>]) -> bool
     ensures { result ≡ some_twice (flags_of clause.now) }
 {
-    for (i, literal) in clause.iter().enumerate() {
-        if names(&clause[i + 1..], literal.flag) {
-            return true;
-        }
-    }
-    false
+    clause
+        .iter()
+        .enumerate()
+        .any(|(i, literal)| names(&clause[i + 1..], literal.flag))
 }
 
 // Whether there is no room for one clause more, of so many literals. Their sum need not fit a number, so no sum is taken.

@@ -3,7 +3,6 @@
 ghost use Rattle.clauses.specs.Stores.{Pushes, PushesAll, Puts};
 
 use crate::literal::Literal;
-use crate::refusing::in_bytes;
 use model::refusal::AddRefusal;
 use ragged::Lists;
 
@@ -11,13 +10,9 @@ use ragged::Lists;
 fn push(lists: &mut Lists<Literal<u8>>, literal: Literal<usize>) -> Result<(), AddRefusal>
     ensures { Pushes literal lists.old lists.new result }
 {
-    let Some(literal) = in_bytes(literal) else {
-        return Err(AddRefusal::Flag);
-    };
-    match lists.push(literal) {
-        Ok(()) => Ok(()),
-        Err(_) => Err(AddRefusal::Full),
-    }
+    lists
+        .push(literal.try_into()?)
+        .map_err(|_| AddRefusal::Full)
 }
 
 // Puts all literals into the open list.
@@ -38,8 +33,5 @@ pub(crate) fn put(
     ensures { Puts clause.now lists.old lists.new result }
 {
     push_all(lists, clause)?;
-    match lists.close() {
-        Ok(()) => Ok(()),
-        Err(_) => Err(AddRefusal::Full),
-    }
+    lists.close().map_err(|_| AddRefusal::Full)
 }

@@ -1,12 +1,12 @@
 -- Rows by their number in two lists of rows joined.
-use Rattle.std.specs.Prelude.{◌≡◌, ℕ, ◌+◌, ◌-◌, ◌<◌, ◌≤◌, min, cond, List, ◌++◌, length, nat_lt}
+use Rattle.std.specs.Prelude.{◌≡◌, ℕ, ◌+◌, ◌-◌, ◌<◌, ◌≤◌, min, cond, List, ◌++◌, length, Some, None, Option, nat_lt}
 use Rattle.std.proofs.Common.{sym, ap, ◌∙◌, inl, inr, arith}
 use Rattle.std.proofs.lemmas.List.{length-take, length-append, get_or-take, get_or_past, get_or_append_left, get_or-append_right}
 use Rattle.std.proofs.lemmas.Bool.{cases_lt, cond-true, cond-false, lt-ltb, le-ltb}
 use Rattle.model.specs.Rows.{Row, no_row, listed, row_at}
 use Rattle.joined.specs.Places.{place, row_in}
 use Rattle.joined.specs.declared.place.Place.{Place}
-use Rattle.joined.specs.declared.place.Place.TheVariants.{First, Second, Past}
+use Rattle.joined.specs.declared.place.Place.TheVariants.{First, Second}
 
 module _ (xs ys : List Row) where
   -- the rows that have a number are those of both books, up to 65,535
@@ -40,12 +40,12 @@ module _ (xs ys : List Row) where
     at_place =
         elim (cases_lt row count) [
           | inl h ↦ in_first h ∙ ap (row_in xs ys) (sym (cond-true (nat_lt row count) _ _ (lt-ltb row count h)))
-          | inr h ↦ (let b = cond-false (nat_lt row count) (First row) (cond (nat_lt row 65535) (Second (row - count)) Past) (le-ltb row count h) in
+          | inr h ↦ (let b = cond-false (nat_lt row count) (Some (First row)) (cond (nat_lt row 65535) (Some (Second (row - count))) None) (le-ltb row count h) in
               elim (cases_lt row 65535) [
                 | inl a ↦ in_second h a ∙ ap (row_in xs ys) (sym (b ∙ cond-true (nat_lt row 65535) _ _ (lt-ltb row 65535 a)))
                 | inr a ↦ past a ∙ ap (row_in xs ys) (sym (b ∙ cond-false (nat_lt row 65535) _ _ (le-ltb row 65535 a)))
               ])
         ]
 
-    pub located : (p : Place) → p ≡ place row count → row_at (xs ++ ys) row ≡ row_in xs ys p
+    pub located : (p : Option Place) → p ≡ place row count → row_at (xs ++ ys) row ≡ row_in xs ys p
     located p q = at_place ∙ ap (row_in xs ys) (sym q)

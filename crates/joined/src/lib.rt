@@ -29,7 +29,7 @@ fn total(first: u16, second: u16) -> u16
 
 impl<A: Book, B: Book> Joined<A, B> {
     // Which of the two books has the row of a number.
-    fn locate(&self, row: u16) -> Place
+    fn locate(&self, row: u16) -> Option<Place>
         ensures { row_at (A.Book.rows self.now.first ++ B.Book.rows self.now.second) row ≡ row_in (A.Book.rows self.now.first) (B.Book.rows self.now.second) result }
     {
         place_of(row, self.first.count())
@@ -47,17 +47,17 @@ impl<A: Book, B: Book> Book for Joined<A, B> {
 
     fn touches(&self, row: u16, flag: usize) -> bool {
         match self.locate(row) {
-            Place::First(number) => self.first.touches(number, flag),
-            Place::Second(number) => self.second.touches(number, flag),
-            Place::Past => false,
+            Some(Place::First(number)) => self.first.touches(number, flag),
+            Some(Place::Second(number)) => self.second.touches(number, flag),
+            None => false,
         }
     }
 
     fn strike(&self, row: u16, b: &mut FlagBox) -> Strike {
         match self.locate(row) {
-            Place::First(number) => self.first.strike(number, b),
-            Place::Second(number) => self.second.strike(number, b),
-            Place::Past => Strike::Unchanged,
+            Some(Place::First(number)) => self.first.strike(number, b),
+            Some(Place::Second(number)) => self.second.strike(number, b),
+            None => Strike::Unchanged,
         }
     }
 }

@@ -6,7 +6,7 @@ ghost use Rattle.clauses.specs.Refusals.{refusal};
 
 use super::Clauses;
 use crate::literal::Literal;
-use crate::refusing::{MOST_CLAUSES, MOST_LITERALS, reason};
+use crate::refusing::{MOST_CLAUSES, MOST_LITERALS, check};
 use crate::storing::put;
 use model::refusal::{AddRefusal, MakeRefusal};
 use ragged::Lists;
@@ -17,10 +17,8 @@ impl Clauses {
     pub fn new(heap: Global) -> Result<Clauses, MakeRefusal>
         ensures { MatchResult result (λ c. clauses_of c ≡ []) (λ e. e ≡ Memory) }
     {
-        match Lists::new(heap, MOST_CLAUSES, MOST_LITERALS) {
-            Ok(lists) => Ok(Clauses { lists }),
-            Err(_) => Err(MakeRefusal::Memory),
-        }
+        let lists = Lists::new(heap, MOST_CLAUSES, MOST_LITERALS)?;
+        Ok(Clauses { lists })
     }
 
     // Adds a clause after the others, or says why not: it has no literal, a flag is above 255, a flag stands twice in it, there is no room
@@ -28,9 +26,7 @@ impl Clauses {
     pub fn add(&mut self, clause: &[Literal<usize>]) -> Result<(), AddRefusal>
         ensures { Added (refusal (length (clauses_of self.old)) (total_length (clauses_of self.old)) clause.now) clause.now self.old self.new result }
     {
-        match reason(clause, self.lists.len(), self.lists.item_count()) {
-            Some(refusal) => Err(refusal),
-            None => put(&mut self.lists, clause),
-        }
+        check(clause, self.lists.len(), self.lists.item_count())?;
+        put(&mut self.lists, clause)
     }
 }

@@ -6,8 +6,8 @@ ghost use Rattle.clauses.specs.Literals.{flags_of, row_of};
 ghost use Rattle.clauses.specs.Proper;
 
 use super::Clauses;
-use crate::clause::{strike_clause, touches_clause};
-use crate::literal::Literal;
+use crate::clause::strike_clause;
+use crate::literal::{Literal, names};
 use model::book::Book;
 use model::boxes::FlagBox;
 use model::strike::Strike;
@@ -39,10 +39,8 @@ impl Book for Clauses {
     }
 
     fn touches(&self, row: u16, flag: usize) -> bool {
-        match self.clause(row) {
-            Some(literals) => touches_clause(literals, flag),
-            None => false,
-        }
+        self.clause(row)
+            .is_some_and(|literals| names(literals, flag))
     }
 
     fn strike(&self, row: u16, b: &mut FlagBox) -> Strike {

@@ -1,12 +1,12 @@
-use Rattle.std.proofs.Common.{◌<◌, min, sym, ◌∙◌, arith}
+use Rattle.std.proofs.Common.{refl, rules, tests}
+use Rattle.std.proofs.lemmas.Iterator.{first_from_find}
 use Rattle.model.specs.View.{at}
-use Rattle.choosers.proofs.Finding.{lowest_is, lowest_none}
+use Rattle.choosers.proofs.Finding.{yields_flags, Open_at, Shut_at, lowest_found}
 use Rattle.choosers.proofs.rising.lowest_open.Goals as goal
 
-pub returns-then-is_open : goal.returns-then-is_open
-returns-then-is_open c =
-    let l : c.loop-flag.flag < min c.args.n 256 = omega arith in
-    lowest_is (at c.args.b.now) (min c.args.n 256) c.loop-flag.flag l (sym c.is_open.ensures ∙ c.if-is_open.true) c.loop-flag.invariant
-
 pub returns : goal.returns
-returns c = lowest_none (at c.args.b.now) (min c.args.n 256) (λ g l. c.loop-flag.invariant g (omega arith))
+returns c =
+    let b = at c.args.b.now in
+    lowest_found b c.args.n 256 c.find.result
+    (first_from_find _ _ c.find.result (Open_at b) (Shut_at b) c.find.ensures.ran (yields_flags c.args.n 256 refl c.flags_below.ensures)
+    (λ x q k. search (rules, tests)) (λ x q k. search (rules, tests)))

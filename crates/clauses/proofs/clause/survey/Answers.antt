@@ -1,5 +1,5 @@
 use Rattle.model.specs.View.{at}
-use Rattle.clauses.proofs.Looking.{look_more, look_none, look_all}
+use Rattle.clauses.proofs.Looking.{look_more, look_none}
 use Rattle.clauses.proofs.clause.survey.Goals as goal
 
 pub loop-literal-preserved : goal.loop-literal-preserved
@@ -9,7 +9,3 @@ loop-literal-preserved c =
 pub returns-in-None : goal.returns-in-None
 returns-in-None c =
     look_none (at c.args.b.now) c.args.clause.now c.loop-literal.literal-index c.loop-literal.seen c.loop-literal-test.true c.in-None.ensures
-
-pub returns : goal.returns
-returns c =
-    look_all (at c.args.b.now) c.args.clause.now c.loop-literal.literal-index c.loop-literal.seen c.loop-literal-test.false c.loop-literal.invariant

@@ -1,19 +1,12 @@
-use Rattle.std.proofs.Common.{◌+◌, refl, ◌∙◌}
-use Rattle.model.specs.Refusals.{some_twice}
-use Rattle.model.specs.Rows.{elem}
-use Rattle.clauses.specs.Literals.{flags_of}
-use Rattle.clauses.proofs.Looking.{decided_here, decided_later, decided_never, rest_has}
+use Rattle.std.proofs.Common.{◌∙◌, rules, tests}
+use Rattle.std.proofs.lemmas.Iterator.{YieldsList-from_slice}
+use Rattle.std.proofs.lemmas.Iterator.Consumers.{YieldsList-from_enumerate}
+use Rattle.std.proofs.lemmas.Iterator.Search.{any_from_yields_List}
+use Rattle.clauses.proofs.Naming.{again, any_twice}
 use Rattle.clauses.proofs.refusing.names_twice.Goals as goal
 
-pub returns-then-names : goal.returns-then-names
-returns-then-names c =
-    decided_here (λ ms. some_twice (flags_of ms)) (λ l ms. elem l.flag (flags_of ms)) (λ l ms. refl) c.args.clause.now c.loop-i.i c.loop-i.invariant c.loop-i-test.true
-    (c.if-names.ensures ∙ rest_has _ c.args.clause.now (c.loop-i.i + 1))
-
-pub loop-i-preserved : goal.loop-i-preserved
-loop-i-preserved c =
-    decided_later (λ ms. some_twice (flags_of ms)) (λ l ms. elem l.flag (flags_of ms)) (λ l ms. refl) c.args.clause.now c.loop-i.i c.loop-i.invariant c.loop-i-test.true
-    (c.if-names.ensures ∙ rest_has _ c.args.clause.now (c.loop-i.i + 1))
-
 pub returns : goal.returns
-returns c = decided_never (λ ms. some_twice (flags_of ms)) (λ l ms. elem l.flag (flags_of ms)) (λ l ms. refl) c.args.clause.now c.loop-i.i c.loop-i.invariant refl c.loop-i-test.false
+returns c =
+    let ls = c.args.clause.now in
+    any_from_yields_List (again ls) _ _ c.any.result c.any.ensures.ran (YieldsList-from_enumerate (YieldsList-from_slice ls (cc)) (cc)) (λ x b q k. search (rules, tests))
+    ∙ any_twice ls

@@ -1,21 +1,17 @@
-use Rattle.std.proofs.Common.{sym, refl, ◌∙◌}
+use Rattle.std.proofs.Common.{None, refl, rules, subst, sym, tests}
+use Rattle.std.proofs.lemmas.Iterator.Consumers.{YieldsList-from_filter}
 use Rattle.model.specs.View.{at}
-use Rattle.choosers.specs.Choices.{highest}
-use Rattle.choosers.proofs.Finding.{highest_with, highest_past}
+use Rattle.choosers.specs.Choices.{is_open}
+use Rattle.choosers.specs.Flags.{FlagsBelow}
+use Rattle.choosers.proofs.Finding.{fold_is, yields_flags, with_flag, highest_found}
 use Rattle.choosers.proofs.ranked.Ranked.highest_open.Goals as goal
-use Rattle.choosers.proofs.ranked.Ranked.highest_open.Goals.{then-is_open, else-is_open}
 
-pub loop-flag-init : goal.loop-flag-init
-unfolding highest
-loop-flag-init c = refl
-
-pub loop-flag-preserved : goal.loop-flag-preserved
-loop-flag-preserved c =
+pub returns : goal.returns
+returns c =
     let b = at c.args.b.now in
     let ranks = c.args.self.now.ranks in
-    let flag = c.loop-flag.flag in
-    let best = c.loop-flag.best in
-    elim c.if-is_open.branch [
-      | then-is_open w ↦ w.best-is ∙ highest_with b ranks flag best w.better.result c.loop-flag.invariant (sym c.is_open.ensures ∙ w.if-is_open.true) w.better.ensures
-      | else-is_open w ↦ w.best-is ∙ highest_past b ranks flag best c.loop-flag.invariant (sym c.is_open.ensures ∙ w.if-is_open.false)
-    ]
+    let flags = subst (FlagsBelow c.args.n) (sym c.filter.ensures.source) c.flags_below.ensures in
+    highest_found b ranks c.args.n 256 c.fold.result
+    (fold_is (with_flag b ranks) None c.fold.result c.fold.ensures.ran
+    (YieldsList-from_filter _ (λ f. is_open (b f)) (yields_flags c.args.n 256 refl flags) c.filter.ensures.closure (λ x r q k. search (rules, tests)))
+    (λ best f r q k. search (rules, tests)))
