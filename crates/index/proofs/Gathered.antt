@@ -1,79 +1,72 @@
 -- Numbers that pass a test, gathered one after another.
-use Rattle.std.proofs.Common.{◌≡◌, ℕ, zero, suc, ◌+◌, ◌<◌, Bool, true, false, cond, ◌&&◌, ◌||◌, eqb, ltb, List, [], ◌∷◌, ◌++◌, map, length, get_or, Ok, sym, refl, ap, ◌∙◌, subst, ap₂, ⊎_elim, append_assoc, append-nil, add-one, arith}
-use mathlib.Core.Bool.{and-true, and-false, or_assoc, or-false}
-use Rattle.std.proofs.lemmas.List.FromFn.{map-range_with_len_more, get_or-map-range_with_len}
-use Rattle.std.proofs.lemmas.Bool.{cases_eq, cases_lt, and_parts, and_from, ltb-true, eq-eqb, ne_eqb, lt-ltb, le-ltb}
+use Rattle.std.proofs.Common.{◌≡◌, ℕ, zero, suc, ◌+◌, ◌-◌, ◌<◌, Bool, true, false, ◌&&◌, leb, ltb, List, [], ◌∷◌, ◌++◌, map, filter, length, get_or, Option, Some, sym, refl, ap, ◌∙◌, subst, ap₂, map-id, add-one, arith}
+use Rattle.std.proofs.lemmas.List.FromFn.{map-range_with_len_more, get_or-map-range_with_len, length-range_with_len}
+use Rattle.std.proofs.lemmas.Bool.{and_parts, and_from, ltb-true, lt-ltb}
+use Rattle.std.proofs.lemmas.Iterator.{YieldsList, items_from_drains}
+use Rattle.std.proofs.lemmas.Iterator.Consumers.{YieldsList-from_shown}
+use Rattle.std.specs.Range.{range_inclusive_left, range_inclusive_len, range_inclusive_steps, range_inclusive_start, range_inclusive_end, range_inclusive_exhausted}
+use Rattle.std.specs.declared.ops.RangeInclusive.{RangeInclusive}
+use Rattle.std.proofs.lemmas.Bool.Decides.{nat_tests}
+use Rattle.std.specs.Iterator.{Drains}
 use Rattle.std.specs.List.{range_with_len}
-use Rattle.ragged.specs.Lists.{lists_of, open_of, Closed}
+use Rattle.ragged.specs.Lists.{lists_of, open_of}
 use Rattle.ragged.specs.declared.store.Lists.{Lists}
 use Rattle.model.specs.Rows.{Row, elem, on, row_at, workable}
 use Rattle.model.proofs.Workable.{flag_below}
-use Rattle.index.specs.Gathering.{Gathers}
+use Rattle.index.specs.Gathering.{ClosesWith}
 use Rattle.index.specs.Indexes.{rows_with, flags_in, those, Indexes, IndexFinds}
 use Rattle.index.specs.declared.Index.{Index}
 
-pub those_more : (p : ℕ → Bool) (n : ℕ) → those p (n + 1) ≡ those p n ++ cond (p n) (n ∷ []) []
-unfolding those
-those_more p n = ap (those p) (add-one n)
-
-module _ {T : Type 0} where
-  pub gathers_none : (s : Lists T) → Gathers [] s s
-  gathers_none s = record { closed = refl; last = sym (append-nil (open_of s)) }
-
-  pub gathers_more : (xs ys : List T) (before now after : Lists T) → Gathers xs before now → Gathers ys now after → Gathers (xs ++ ys) before after
-  gathers_more xs ys before now after g h = record {
-    closed = h.closed ∙ g.closed;
-    last = h.last ∙ ap (λ zs. zs ++ ys) g.last ∙ append_assoc (open_of before) xs ys;
-  }
-
--- one number more, if it passes
-pub gathers_those : (p : ℕ → Bool) (n : ℕ) (t : Bool) (before now after : Lists ℕ) → t ≡ p n → Gathers (those p n) before now → Gathers (cond t (n ∷ []) []) now after → Gathers (those p (n + 1)) before after
-gathers_those p n t before now after e g h =
-    subst (λ xs. Gathers xs before after) (ap (λ b. those p n ++ cond b (n ∷ []) []) e ∙ sym (those_more p n)) (gathers_more (those p n) (cond t (n ∷ []) []) before now after g h)
-
-pub gathers_start : (p : ℕ → Bool) (s : Lists ℕ) → Gathers (those p 0) s s
-unfolding those
-gathers_start p s = gathers_none s
-
 -- one list more is closed
-pub closed_more : {E : Type 0} (g : ℕ → List ℕ) (n : ℕ) (now gathered after : Lists ℕ) (x : Unit {0})
-    → (lists_of now ≡ map g (range_with_len 0 n)) × (open_of now ≡ []) → Gathers (g n) now gathered → Closed {E = E} gathered after (Ok x)
+pub closed_more : (g : ℕ → List ℕ) (n : ℕ) (items : List ℕ) (now after : Lists ℕ) → items ≡ g n
+    → (lists_of now ≡ map g (range_with_len 0 n)) × (open_of now ≡ []) → ClosesWith items now after
     → (lists_of after ≡ map g (range_with_len 0 (n + 1))) × (open_of after ≡ [])
-closed_more g n now gathered after x so_far h c = (
-  c.lists
-      ∙ ap₂ (λ xs ys. xs ++ ys ∷ []) (h.closed ∙ so_far.0) (h.last ∙ ap (λ xs. xs ++ g n) so_far.1)
-      ∙ sym (map-range_with_len_more g 0 n n (omega arith)),
+closed_more g n items now after e so_far c = (
+  c.closed ∙ ap₂ (λ xs ys. xs ++ ys ∷ []) so_far.0 (ap (λ xs. xs ++ items) so_far.1 ∙ e) ∙ sym (map-range_with_len_more g 0 n n (omega arith)),
   c.opened,
 )
 
-elem-append : (k : ℕ) (xs ys : List ℕ) → elem k (xs ++ ys) ≡ (elem k xs || elem k ys)
-elem-append k [] ys = refl
-elem-append k (x ∷ xs) ys = ap (λ b. eqb k x || b) (elem-append k xs ys) ∙ sym (or_assoc (eqb k x) (elem k xs) (elem k ys))
+-- the items that a chain gives are its list
+pub drained : {S : Type 0} {steps : S → Option ℕ → S → Type 0} {s : S} {all : List ℕ} → (xs : List ℕ) → Drains steps s xs → YieldsList steps (λ x. x) s all → xs ≡ all
+drained xs d road = sym (map-id xs) ∙ items_from_drains xs (d.1.0, d.1.1, λ _. (d.0, d.1.2)) road
 
-elem_last : (k n : ℕ) (t : Bool) → elem k (cond t (n ∷ []) []) ≡ (t && eqb k n)
-elem_last k n true = or-false (eqb k n)
-elem_last k n false = refl
+-- the numbers a..=b, as a chain begins at them
+abbrev left : RangeInclusive ℕ → ℕ
+left s = range_inclusive_left (λ x y. y - x) s
 
--- one number more
-one_more : (p : ℕ → Bool) (n k : ℕ) → ((ltb k n && p k) || (p n && eqb k n)) ≡ (ltb k (suc n) && p k)
-one_more p n k = ⊎_elim
-    (λ e.
-    ap₂ (λ x y. (x && p k) || (p n && y)) (le-ltb k n (omega arith)) (eq-eqb k n e) ∙ and-true (p n) ∙ ap p (sym e)
-    ∙ sym (ap (λ x. x && p k) (lt-ltb k (suc n) (omega arith))))
-    (λ d.
-    ap (λ y. (ltb k n && p k) || (p n && y)) (ne_eqb k n d) ∙ ap (λ y. (ltb k n && p k) || y) (and-false (p n)) ∙ or-false (ltb k n && p k)
-    ∙ ⊎_elim
-    (λ l. ap (λ x. x && p k) (lt-ltb k n l ∙ sym (lt-ltb k (suc n) (omega arith))))
-    (λ l. ap (λ x. x && p k) (le-ltb k n l ∙ sym (le-ltb k (suc n) (omega arith))))
-    (cases_lt k n))
-    (cases_eq k n)
+abbrev steps : RangeInclusive ℕ → Option ℕ → RangeInclusive ℕ → Type 0
+steps = range_inclusive_steps (λ x y. y - x) (λ x y. y ≡ x + 1)
+
+one_less : (s : RangeInclusive ℕ) (x : ℕ) (t : RangeInclusive ℕ) → steps s (Some x) t → range_with_len (range_inclusive_start s) (left s) ≡ x ∷ range_with_len (range_inclusive_start t) (left t)
+one_less s x t h = by (range_inclusive_exhausted t) refl
+  where
+    by : (b : Bool) → range_inclusive_exhausted t ≡ b → range_with_len (range_inclusive_start s) (left s) ≡ x ∷ range_with_len (range_inclusive_start t) (left t)
+    by true e =
+        let none : left t ≡ 0 = ap (range_inclusive_len (λ a b. b - a) (range_inclusive_start t) (range_inclusive_end t)) e in
+        let last : left s ≡ 1 = omega arith in
+        ap (range_with_len (range_inclusive_start s)) last ∙ ap₂ (λ y n. y ∷ range_with_len (range_inclusive_start t) n) (sym h.1.0) (sym none)
+    by false e =
+        ap (range_with_len (range_inclusive_start s)) (sym h.1.1 ∙ add-one (left t)) ∙ ap₂ (λ y m. y ∷ range_with_len m (left t)) (sym h.1.0) (sym (h.1.2 e))
+
+pub YieldsList-from_range_inclusive : {s : RangeInclusive ℕ} (r : RangeInclusive ℕ) (b : ℕ) → s ≡ r → range_inclusive_start r ≡ 0 → range_inclusive_end r ≡ b → range_inclusive_exhausted r ≡ false → YieldsList steps (λ x. x) s (range_with_len 0 (b + 1))
+YieldsList-from_range_inclusive {s} r b is e f x =
+    let fresh : left r ≡ b + 1 = omega (arith, ap (range_inclusive_len (λ a b. b - a) (range_inclusive_start r) (range_inclusive_end r)) x) in
+    subst (λ t. YieldsList steps (λ x. x) t (range_with_len 0 (b + 1))) (sym is)
+    (subst (λ xs. YieldsList steps (λ x. x) r xs) (ap₂ range_with_len e fresh)
+    (YieldsList-from_shown steps (λ x. x) (λ t. range_with_len (range_inclusive_start t) (left t)) (λ t u h. length-range_with_len (range_inclusive_start t) (left t) ∙ h.1.0) one_less r))
+
+elem-filter : (p : ℕ → Bool) (k : ℕ) (xs : List ℕ) → elem k (filter p xs) ≡ (elem k xs && p k)
+elem-filter p k [] = refl
+elem-filter p k (x ∷ xs) = grind (arith, nat_tests, elem-filter p k xs)
+
+elem-range : (k a n : ℕ) → elem k (range_with_len a n) ≡ (leb a k && ltb k (a + n))
+elem-range k a zero = grind (arith, nat_tests)
+elem-range k a (suc n) = grind (arith, nat_tests, elem-range k (a + 1) n)
 
 -- a number is among them exactly when it is below n and passes
-pub elem-those : (p : ℕ → Bool) (n k : ℕ) → elem k (those p n) ≡ (ltb k n && p k)
+elem-those : (p : ℕ → Bool) (n k : ℕ) → elem k (those p n) ≡ (ltb k n && p k)
 unfolding those
-elem-those p zero k = sym (ap (λ b. b && p k) (le-ltb k 0 (omega arith)))
-elem-those p (suc n) k =
-    elem-append k (those p n) (cond (p n) (n ∷ []) []) ∙ ap₂ (λ x y. x || y) (elem-those p n k) (elem_last k n (p n)) ∙ one_more p n k
+elem-those p n k = elem-filter p k (range_with_len 0 n) ∙ ap (λ b. b && p k) (elem-range k 0 n ∙ grind (arith, nat_tests))
 
 -- the list of a key
 listed_at : (g : ℕ → List ℕ) (n k : ℕ) (xss : List (List ℕ)) → xss ≡ map g (range_with_len 0 n) → k < n → get_or xss k [] ≡ g k

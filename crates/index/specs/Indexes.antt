@@ -1,5 +1,6 @@
 -- What an index holds, and when it is a book's.
-use Rattle.std.specs.Prelude.{◌≡◌, ℕ, zero, suc, ◌<◌, Bool, true, cond, List, [], ◌∷◌, ◌++◌, length, slice_index_or}
+use Rattle.std.specs.Prelude.{◌≡◌, ℕ, ◌<◌, Bool, true, List, [], filter, length, slice_index_or}
+use Rattle.std.specs.List.{range_with_len}
 use Rattle.ragged.specs.Lists.{lists_of}
 use Rattle.model.specs.Rows.{Row, elem, on, On, AllProper, row_at, workable}
 use Rattle.index.specs.declared.Index.{Index}
@@ -14,8 +15,7 @@ flags_in i k = slice_index_or (lists_of i.flags) k []
 
 -- the numbers below n that pass a test, rising
 unfoldable pub those : (ℕ → Bool) → ℕ → List ℕ
-those p zero = []
-those p (suc n) = those p n ++ cond (p n) (n ∷ []) []
+those p n = filter p (range_with_len 0 n)
 
 -- an index is that of a book when it lists, of the rows that can wait, at each flag those that have it, and at each row its flags
 pub record Indexes (rows : List Row) (index : Index) : Type 0 where

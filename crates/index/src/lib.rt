@@ -7,7 +7,7 @@ ghost use Rattle.model.specs.declared.refusal.MakeRefusal.TheVariants.{Memory};
 ghost use Rattle.ragged.specs.Lists.{lists_of};
 ghost use Rattle.index.specs.Indexes.{rows_with, flags_in, Indexes};
 
-use building::both_ways;
+use building::{flags_by_row, rows_by_flag};
 use model::book::Book;
 use model::refusal::MakeRefusal;
 use ragged::Lists;
@@ -31,7 +31,9 @@ impl Index {
     pub fn new<B: Book>(heap: Global, book: &B) -> Result<Index, MakeRefusal>
         ensures { MatchResult result (λ i. Indexes (B.Book.rows book.now) i) (λ e. e ≡ Memory) }
     {
-        Ok(both_ways(heap, book)?)
+        let rows = rows_by_flag(heap, book)?;
+        let flags = flags_by_row(heap, book)?;
+        Ok(Index { rows, flags })
     }
 
     // The rows that are listed at a flag.

@@ -1,75 +1,36 @@
 -- One step of settling, over the waiting numbers and the box.
-use Rattle.std.proofs.Common.{◌≡◌, ℕ, ◌<◌, Bool, true, not, ◌&&◌, eqb, ltb, ◌⊎◌, List, [], ◌∷◌, length, Some, sym, refl, ap, ◌∙◌, subst, inl, inr, ⊎_elim, arith}
+use Rattle.std.proofs.Common.{◌≡◌, ℕ, ◌<◌, Bool, true, not, ◌&&◌, eqb, ltb, ◌⊎◌, List, length, Some, sym, refl, ap, ◌∙◌, subst, inl, inr, ⊎_elim, arith}
 use mathlib.Core.Path.{fun_ext}
-use Rattle.std.proofs.lemmas.Bool.{cases_Bool, cases_eq, both_ways, or_cases, or_left, or_right, and_from, eqb-true, eq-eqb, ne_eqb, lt-ltb, false≢true, cond-true, cond-false}
+use Rattle.std.proofs.lemmas.Bool.{cases_Bool, both_ways, or_left, or_right, and_from, ne_eqb, lt-ltb, cond-true, cond-false}
+use Rattle.std.specs.List.{list_any}
 use Rattle.model.specs.Rows.{Row, elem, on, On, AllProper, nth_row, row_at, workable}
-use Rattle.model.specs.Boxes.{Box, RowConsistent}
+use Rattle.model.specs.Boxes.{Box}
 use Rattle.model.specs.Strikes.{Strikes}
-use Rattle.model.specs.declared.strike.Strike.{Strike}
-use Rattle.model.specs.declared.strike.Strike.TheVariants.{Unchanged, Changed}
+use Rattle.model.specs.declared.strike.Strike.TheVariants.{Changed}
 use Rattle.model.proofs.Sets.{set_decides}
-use Rattle.model.proofs.Striking.{consistent_same, strike_settles, largest_unique}
+use Rattle.model.proofs.Striking.{consistent_same, largest_unique}
 use Rattle.model.proofs.Workable.{few, row_work, row_there}
 use Rattle.index.specs.Indexes.{rows_with, flags_in, Indexes}
 use Rattle.index.specs.declared.Index.{Index}
 use Rattle.index.proofs.Gathered.{index_finds}
 use Rattle.narrowing.specs.Narrowing.{Pending}
+use Rattle.narrowing.proofs.Steps.{on_or_off, some_flag, struck}
 use Rattle.indexed.specs.Narrowing.{OrdersAgree}
-use Rattle.indexed.specs.Waking.{differ, woken, woken_at, some_of, WokenFor, CaughtUp}
+use Rattle.indexed.specs.Waking.{differ, woken, woken_at, WokenFor, CaughtUp}
 use Rattle.narrowing.specs.declared.Verdict.TheVariants.{Alive, Dead}
 use Rattle.indexed.proofs.Wakes.{some_found, differ_true}
 
 -- two rows share a flag at which two boxes differ, or none
 abbrev Lost : Row → Row → Box → Box → Type 0
-Lost r q a b = (f : ℕ) × On r f × (a f ≡ b f → ⊥) × On q f
+Lost r q a b = (f : ℕ) × On r f × ((a f ≡ b f → ⊥) × On q f)
 
 lost : (r q : Row) (a b : Box) → Lost r q a b ⊎ (Lost r q a b → ⊥)
-lost r q a b = go r.flags
-  where
-    some : (fs : List ℕ) → Type 0
-    some fs = (f : ℕ) × (elem f fs ≡ true) × (a f ≡ b f → ⊥) × On q f
-
-    more : (x : ℕ) (xs : List ℕ) → some xs → some (x ∷ xs)
-    more x xs s = (s.0, or_right (eqb s.0 x) (elem s.0 xs) s.1, s.2, s.3)
-
-    none : (x : ℕ) (xs : List ℕ) → ((a x ≡ b x → ⊥) → On q x → ⊥) → (some xs → ⊥) → some (x ∷ xs) → ⊥
-    none x xs n m s = ⊎_elim
-        (λ e. n (λ h. s.2 (subst (λ y. a y ≡ b y) (sym (eqb-true s.0 x e)) h)) (subst (λ y. On q y) (eqb-true s.0 x e) s.3))
-        (λ e. m (s.0, e, s.2, s.3))
-        (or_cases (eqb s.0 x) (elem s.0 xs) s.1)
-
-    rest : (x : ℕ) (xs : List ℕ) → ((a x ≡ b x → ⊥) → On q x → ⊥) → some xs ⊎ (some xs → ⊥) → some (x ∷ xs) ⊎ (some (x ∷ xs) → ⊥)
-    rest x xs n (inl s) = inl (more x xs s)
-    rest x xs n (inr m) = inr (none x xs n m)
-
-    go : (fs : List ℕ) → some fs ⊎ (some fs → ⊥)
-    go [] = inr (λ s. false≢true s.1)
-    go (x ∷ xs) = ⊎_elim
-        (λ e. rest x xs (λ n. absurd (n e)) (go xs))
-        (λ n. ⊎_elim
-        (λ o. inl (x, or_left (eqb x x) (elem x xs) (eq-eqb x x refl), n, o))
-        (λ o. rest x xs (λ m p. both_ways (on q x) o p) (go xs))
-        (cases_Bool (on q x)))
-        (set_decides (a x) (b x))
+lost r q a b = some_flag r (λ f. (a f ≡ b f → ⊥) × On q f) (λ f. ⊎_elim
+    (λ e. inr (λ p. p.0 e))
+    (λ n. ⊎_elim (λ o. inl (n, o)) (λ o. inr (λ p. o p.1)) (on_or_off q f))
+    (set_decides (a f) (b f)))
 
 module _ (rows : List Row) (w w' : ℕ → Bool) (row : ℕ) (low : row < 1024) (before after : Box) (took : (k : ℕ) → w' k ≡ (not (eqb k row) && w k)) where
-  -- after a strike on the row that was taken, each row waits, or supports its values, or is another one that supported them before
-  struck : (answer : Strike) → Strikes (row_at rows row) before after answer → Pending (workable rows) w before → (k : ℕ) → k < length (workable rows)
-      → (w' k ≡ true) ⊎ (RowConsistent (nth_row (workable rows) k) after ⊎ ((k ≡ row → ⊥) × RowConsistent (nth_row (workable rows) k) before))
-  struck answer s p k l = ⊎_elim
-      (λ e. inr (inl (subst (λ r. RowConsistent r after) (row_work rows row low ∙ ap (λ j. nth_row (workable rows) j) (sym e)) (strike_settles (row_at rows row) before after s.left))))
-      (λ n. ⊎_elim
-      (λ h. inl (took k ∙ ap (λ b. not b && w k) (ne_eqb k row n) ∙ h))
-      (λ c. inr (inr (n, c)))
-      (p k l))
-      (cases_eq k row)
-
-  pub pending_unchanged : Strikes (row_at rows row) before after Unchanged → Pending (workable rows) w before → Pending (workable rows) w' after
-  pending_unchanged s p k l = ⊎_elim
-      inl
-      (λ c. inr (⊎_elim (λ x. x) (λ x. consistent_same (nth_row (workable rows) k) before after (λ f _. s.says.1 f) x.1) c))
-      (struck Unchanged s p k l)
-
   module _ (fit : AllProper rows) (index : Index) (i : Indexes rows index) (seen : Box) (seen-is : (f : ℕ) → seen f ≡ before f) (flags : List ℕ) (flags-are : flags ≡ flags_in index row) where
     -- a row that has a flag is there
     there : (f : ℕ) → On (row_at rows row) f → row < length (workable rows)
@@ -79,8 +40,8 @@ module _ (rows : List Row) (w w' : ℕ → Bool) (row : ℕ) (low : row < 1024) 
     listed_flag f o = ap (elem f) flags-are ∙ (index_finds rows index fit i).flags_found row f (there f o) o
 
     -- another row with a flag that lost a value is woken
-    lost_woken : (k : ℕ) → k < length (workable rows) → (k ≡ row → ⊥) → Lost (row_at rows row) (nth_row (workable rows) k) before after → some_of (woken_at index seen after row k) flags ≡ true
-    lost_woken k l n (f, o, d, q) =
+    lost_woken : (k : ℕ) → k < length (workable rows) → (k ≡ row → ⊥) → Lost (row_at rows row) (nth_row (workable rows) k) before after → list_any (woken_at index seen after row k) flags ≡ true
+    lost_woken k l n (f, o, (d, q)) =
         let p : On (row_at rows k) f = subst (λ r. On r f) (sym (row_work rows k (omega (arith, few rows)))) q in
         some_found (woken_at index seen after row k) flags f (listed_flag f o)
         (and_from (differ (seen f) (after f)) (woken (Some row) (rows_with index f) k) (differ_true (seen f) (after f) (λ e. d (sym (seen-is f) ∙ e)))
@@ -90,21 +51,21 @@ module _ (rows : List Row) (w w' : ℕ → Bool) (row : ℕ) (low : row < 1024) 
     -- a row that shares no such flag supports its values as before
     unlost : (s : Strikes (row_at rows row) before after Changed) (q : Row) → (Lost (row_at rows row) q before after → ⊥) → (f : ℕ) → On q f → after f ≡ before f
     unlost s q n f o = ⊎_elim
-        (λ p. ⊎_elim sym (λ d. absurd (n (f, p, d, o))) (set_decides (before f) (after f)))
+        (λ p. ⊎_elim sym (λ d. absurd (n (f, p, (d, o)))) (set_decides (before f) (after f)))
         (λ p. s.left.rest f (both_ways (on (row_at rows row) f) p))
         (cases_Bool (on (row_at rows row) f))
 
     pub pending_changed : (w'' : ℕ → Bool) → Strikes (row_at rows row) before after Changed → WokenFor index seen after row flags w' w'' → Pending (workable rows) w before → Pending (workable rows) w'' after
     pending_changed w'' s woke p k l = ⊎_elim
-        (λ h. inl (woke k ∙ or_right (some_of (woken_at index seen after row k) flags) (w' k) h))
+        (λ h. inl (woke k ∙ or_right (list_any (woken_at index seen after row k) flags) (w' k) h))
         (λ c. ⊎_elim
         inr
         (λ x. ⊎_elim
-        (λ t. inl (woke k ∙ or_left (some_of (woken_at index seen after row k) flags) (w' k) (lost_woken k l x.0 t)))
+        (λ t. inl (woke k ∙ or_left (list_any (woken_at index seen after row k) flags) (w' k) (lost_woken k l x.0 t)))
         (λ n. inr (consistent_same (nth_row (workable rows) k) before after (unlost s (nth_row (workable rows) k) n) x.1))
         (lost (row_at rows row) (nth_row (workable rows) k) before after))
         c)
-        (struck Changed s p k l)
+        (struck rows w w' row low before after took Changed s p k l)
 
     -- the box seen has caught up
     pub seen_again : (seen' : Box) → Strikes (row_at rows row) before after Changed → CaughtUp flags after seen seen' → (f : ℕ) → seen' f ≡ after f

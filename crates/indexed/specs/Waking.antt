@@ -1,6 +1,7 @@
 -- Which numbers wait after rows were woken.
-use Rattle.std.specs.Prelude.{◌≡◌, ℕ, Bool, true, false, cond, not, ◌&&◌, ◌||◌, List, [], ◌∷◌, Some, None, Option, ◌==◌, nat_lt}
+use Rattle.std.specs.Prelude.{◌≡◌, ℕ, Bool, true, false, cond, not, ◌&&◌, ◌||◌, List, Some, None, Option, ◌==◌, nat_lt}
 use Rattle.std.specs.Bool.{beq}
+use Rattle.std.specs.List.{list_any}
 use Rattle.model.specs.Domains.{has}
 use Rattle.model.specs.Rows.{elem}
 use Rattle.model.specs.Boxes.{Box}
@@ -29,14 +30,9 @@ differ d e = not (beq (has d false) (has e false) && beq (has d true) (has e tru
 abbrev pub woken_at : Index → Box → Box → ℕ → ℕ → ℕ → Bool
 woken_at index before after row k f = differ (before f) (after f) && woken (Some row) (rows_with index f) k
 
--- whether a test holds of some number of a list
-abbrev pub some_of : (ℕ → Bool) → List ℕ → Bool
-some_of p [] = false
-some_of p (x ∷ xs) = p x || some_of p xs
-
 -- those that waited, and the other rows that have one of the flags at which the sets differ
 abbrev pub WokenFor : Index → Box → Box → ℕ → List ℕ → (ℕ → Bool) → (ℕ → Bool) → Type 0
-WokenFor index old new row flags before after = (k : ℕ) → after k ≡ (some_of (woken_at index old new row k) flags || before k)
+WokenFor index old new row flags before after = (k : ℕ) → after k ≡ (list_any (woken_at index old new row k) flags || before k)
 
 -- a box that has another's sets at some flags
 abbrev pub CaughtUp : List ℕ → Box → Box → Box → Type 0

@@ -1,59 +1,58 @@
 -- One step of settling, over the waiting numbers and the box.
 use Rattle.std.proofs.Common.{◌≡◌, ℕ, ◌<◌, Bool, true, not, ◌&&◌, eqb, ◌⊎◌, List, [], ◌∷◌, length, sym, refl, ap, ◌∙◌, subst, inl, inr, ⊎_elim}
-use Rattle.std.proofs.lemmas.Bool.{cases_Bool, cases_eq, both_ways, or_cases, or_left, or_right, eqb-true, eq-eqb, ne_eqb, false≢true}
+use Rattle.std.proofs.lemmas.Bool.{cases_Bool, cases_eq, both_ways, or_cases, eqb-true, ne_eqb, false≢true}
 use Rattle.model.specs.Domains.{Has}
-use Rattle.model.specs.Rows.{Row, elem, On, AllProper, nth_row, row_at}
+use Rattle.model.specs.Rows.{Row, elem, on, On, AllProper, nth_row, row_at, workable}
 use Rattle.model.specs.Boxes as boxes
 use Rattle.model.specs.Boxes.{Box, RowConsistent, Consistent, ◌⊆◌}
 use Rattle.model.specs.Strikes.{Strikes, Emptied}
 use Rattle.model.specs.Waiting.{NoneWaits}
 use Rattle.model.specs.declared.strike.Strike.{Strike}
 use Rattle.model.specs.declared.strike.Strike.TheVariants.{Unchanged, Changed, Dead as Died}
+use Rattle.model.proofs.Members.{in_here, in_more}
 use Rattle.model.proofs.Sets.{inside_empty}
 use Rattle.model.proofs.Sizes.{size, size-<}
 use Rattle.model.proofs.Striking.{consistent_same, strike_shrinks, strike_keeps, strike_settles, strike_leaves, strike_alive}
 use Rattle.model.proofs.Revise.{largest_exists}
-use Rattle.model.specs.Rows.{workable}
 use Rattle.narrowing.specs.Narrowing.{Pending, Narrowed}
-use Rattle.narrowing.specs.Waking.{Share, WokenNear}
+use Rattle.narrowing.specs.Waking.{WokenNear}
 use Rattle.narrowing.specs.declared.Verdict.TheVariants.{Alive, Dead}
 use Rattle.model.proofs.Workable.{row_work, row_there, work_proper, flag_below}
 
--- two rows share a flag, or none
-shared : (r q : Row) → Share r q ⊎ (Share r q → ⊥)
-shared r q = go r.flags
+-- whether a row has a flag can be told
+pub on_or_off : (r : Row) (f : ℕ) → On r f ⊎ (On r f → ⊥)
+on_or_off r f = ⊎_elim inl (λ o. inr (both_ways (on r f) o)) (cases_Bool (on r f))
+
+-- a row has a flag of which a fact holds, or none, where it can be told of each flag
+pub some_flag : (r : Row) (P : ℕ → Type 0) → ((f : ℕ) → P f ⊎ (P f → ⊥)) → ((f : ℕ) × On r f × P f) ⊎ ((f : ℕ) × On r f × P f → ⊥)
+some_flag r P told = go r.flags
   where
-    some : (fs : List ℕ) → Type 0
-    some fs = (f : ℕ) × (elem f fs ≡ true) × On q f
-
-    more : (x : ℕ) (xs : List ℕ) → some xs → some (x ∷ xs)
-    more x xs s = (s.0, or_right (eqb s.0 x) (elem s.0 xs) s.1, s.2)
-
-    none : (x : ℕ) (xs : List ℕ) → (On q x → ⊥) → (some xs → ⊥) → some (x ∷ xs) → ⊥
-    none x xs n m s = ⊎_elim (λ e. n (subst (λ y. On q y) (eqb-true s.0 x e) s.2)) (λ e. m (s.0, e, s.2)) (or_cases (eqb s.0 x) (elem s.0 xs) s.1)
-
-    go : (fs : List ℕ) → some fs ⊎ (some fs → ⊥)
+    go : (fs : List ℕ) → ((f : ℕ) × (elem f fs ≡ true) × P f) ⊎ ((f : ℕ) × (elem f fs ≡ true) × P f → ⊥)
     go [] = inr (λ s. false≢true s.1)
     go (x ∷ xs) = ⊎_elim
-        (λ o. inl (x, or_left (eqb x x) (elem x xs) (eq-eqb x x refl), o))
-        (λ o. ⊎_elim (λ s. inl (more x xs s)) (λ m. inr (none x xs (both_ways (elem x q.flags) o) m)) (go xs))
-        (cases_Bool (elem x q.flags))
+        (λ p. inl (x, in_here x xs, p))
+        (λ n. ⊎_elim
+        (λ s. inl (s.0, in_more s.0 x xs s.1, s.2))
+        (λ m. inr (λ s. ⊎_elim (λ e. n (subst P (eqb-true s.0 x e) s.2)) (λ e. m (s.0, e, s.2)) (or_cases (eqb s.0 x) (elem s.0 xs) s.1)))
+        (go xs))
+        (told x)
 
 module _ (rows : List Row) (w w' : ℕ → Bool) (row : ℕ) (low : row < 1024) (before after : Box) (took : (k : ℕ) → w' k ≡ (not (eqb k row) && w k)) where
-  -- after a strike on the row that was taken, each row waits, or supports its values, or supported them before
-  struck : (answer : Strike) → Strikes (row_at rows row) before after answer → Pending (workable rows) w before → (k : ℕ) → k < length (workable rows) → (w' k ≡ true) ⊎ (RowConsistent (nth_row (workable rows) k) after ⊎ RowConsistent (nth_row (workable rows) k) before)
+  -- after a strike on the row that was taken, each row waits, or supports its values, or is another one that supported them before
+  pub struck : (answer : Strike) → Strikes (row_at rows row) before after answer → Pending (workable rows) w before → (k : ℕ) → k < length (workable rows)
+      → (w' k ≡ true) ⊎ (RowConsistent (nth_row (workable rows) k) after ⊎ ((k ≡ row → ⊥) × RowConsistent (nth_row (workable rows) k) before))
   struck answer s p k l = ⊎_elim
       (λ e. inr (inl (subst (λ r. RowConsistent r after) (row_work rows row low ∙ ap (λ j. nth_row (workable rows) j) (sym e)) (strike_settles (row_at rows row) before after s.left))))
       (λ n. ⊎_elim
       (λ h. inl (took k ∙ ap (λ b. not b && w k) (ne_eqb k row n) ∙ h))
-      (λ c. inr (inr c))
+      (λ c. inr (inr (n, c)))
       (p k l))
       (cases_eq k row)
 
   pub pending_unchanged : Strikes (row_at rows row) before after Unchanged → Pending (workable rows) w before → Pending (workable rows) w' after
   pending_unchanged s p k l = ⊎_elim
       inl
-      (λ c. inr (⊎_elim (λ x. x) (λ x. consistent_same (nth_row (workable rows) k) before after (λ f _. s.says.1 f) x) c))
+      (λ c. inr (⊎_elim (λ x. x) (λ x. consistent_same (nth_row (workable rows) k) before after (λ f _. s.says.1 f) x.1) c))
       (struck Unchanged s p k l)
 
   pub pending_changed : (w'' : ℕ → Bool) → Strikes (row_at rows row) before after Changed → WokenNear rows row w' w'' → Pending (workable rows) w before → Pending (workable rows) w'' after
@@ -63,8 +62,8 @@ module _ (rows : List Row) (w w' : ℕ → Bool) (row : ℕ) (low : row < 1024) 
       inr
       (λ x. ⊎_elim
       (λ t. inl ((woken k).1 (inl t)))
-      (λ n. inr (strike_leaves (row_at rows row) before after s.left (nth_row (workable rows) k) (λ f o q. n (f, o, q)) x))
-      (shared (row_at rows row) (nth_row (workable rows) k)))
+      (λ n. inr (strike_leaves (row_at rows row) before after s.left (nth_row (workable rows) k) (λ f o q. n (f, o, q)) x.1))
+      (some_flag (row_at rows row) (On (nth_row (workable rows) k)) (on_or_off (nth_row (workable rows) k))))
       c)
       (struck Changed s p k l)
 

@@ -1,47 +1,12 @@
 -- Marks of waiting numbers, as rows are woken one after another.
-use Rattle.std.proofs.Common.{◌≡◌, ℕ, ◌+◌, ◌<◌, ◌≤◌, Bool, true, false, ◌&&◌, ◌||◌, eqb, ltb, ◌⊎◌, ◌↔◌, List, length, sym, refl, ap, ◌∙◌, subst, ap₂, inl, inr, ⊎_elim, arith}
-use mathlib.Core.Bool.{and-true, and-false, or_assoc}
-use Rattle.std.proofs.lemmas.List.{get_or_past}
-use Rattle.std.proofs.lemmas.Bool.{cases_eq, cases_lt, or_cases, or_left, or_right, and_parts, and_from, eq-eqb, ne_eqb, lt-ltb, le-ltb}
-use Rattle.model.specs.Rows.{Row, on, On, no_row, nth_row}
+use Rattle.std.proofs.Common.{◌≡◌, ℕ, ◌+◌, ◌<◌, Bool, true, ◌&&◌, ◌||◌, eqb, ltb, ◌⊎◌, ◌↔◌, sym, ◌∙◌, subst, inl, inr, ⊎_elim, arith}
+use Rattle.std.proofs.lemmas.Bool.Decides.{nat_tests}
+use Rattle.std.proofs.lemmas.Bool.{cases_eq, or_cases, or_left, or_right, and_parts, and_from}
+use Rattle.model.specs.Rows.{Row, on, On}
 
-pub ltb_more : (k n : ℕ) → ltb k (n + 1) ≡ (eqb k n || ltb k n)
-ltb_more k n = ⊎_elim
-    (λ e. lt-ltb k (n + 1) (omega arith) ∙ sym (or_left (eqb k n) (ltb k n) (eq-eqb k n e)))
-    (λ d. ⊎_elim
-    (λ l. lt-ltb k (n + 1) (omega arith) ∙ sym (or_right (eqb k n) (ltb k n) (lt-ltb k n l)))
-    (λ l. le-ltb k (n + 1) (omega arith) ∙ sym (ap₂ (λ x y. x || y) (ne_eqb k n d) (le-ltb k n l)))
-    (cases_lt k n))
-    (cases_eq k n)
-
--- one number more
-pub all_more : (k n : ℕ) (w : Bool) → (eqb k n || (ltb k n || w)) ≡ (ltb k (n + 1) || w)
-all_more k n w = sym (or_assoc (eqb k n) (ltb k n) w) ∙ ap (λ x. x || w) (sym (ltb_more k n))
-
-module _ (o : ℕ → Bool) (k n : ℕ) (w : Bool) where
-  other : (k ≡ n → ⊥) → ((ltb k n && o k) || w) ≡ ((ltb k (n + 1) && o k) || w)
-  other d = ap (λ x. (x && o k) || w) (sym (ltb_more k n ∙ ap (λ x. x || ltb k n) (ne_eqb k n d)))
-
-  here : k ≡ n → (t : Bool) → o n ≡ t → ((ltb k (n + 1) && o k) || w) ≡ (t || w)
-  here e t h = ap₂ (λ x y. (x && y) || w) (lt-ltb k (n + 1) (omega arith)) (ap o e ∙ h)
-
-  -- the number n, where it has the property, is one more
-  pub mark_more : ((o n && eqb k n) || ((ltb k n && o k) || w)) ≡ ((ltb k (n + 1) && o k) || w)
-  mark_more = ⊎_elim
-      (λ e.
-      let past : ((ltb k n && o k) || w) ≡ w = ap (λ x. (x && o k) || w) (le-ltb k n (omega arith)) in
-      ap₂ (λ x y. (o n && x) || y) (eq-eqb k n e) past ∙ (ap (λ x. x || w) (and-true (o n)) ∙ sym (here e (o n) refl)))
-      (λ d. ap (λ x. (o n && x) || ((ltb k n && o k) || w)) (ne_eqb k n d) ∙ (ap (λ x. x || ((ltb k n && o k) || w)) (and-false (o n)) ∙ other d))
-      (cases_eq k n)
-
--- once all rows were seen
-pub all_marked : (rows : List Row) (f k n : ℕ) (w : Bool) → length rows ≤ n → ((ltb k n && on (nth_row rows k) f) || w) ≡ (on (nth_row rows k) f || w)
-all_marked rows f k n w l = ⊎_elim
-    (λ b. ap (λ x. (x && on (nth_row rows k) f) || w) (lt-ltb k n b))
-    (λ b.
-    let e : on (nth_row rows k) f ≡ false = ap (λ r. on r f) (get_or_past rows k no_row (omega arith)) in
-    ap (λ x. (x && on (nth_row rows k) f) || w) (le-ltb k n b) ∙ sym (ap (λ x. x || w) e))
-    (cases_lt k n)
+-- the number n, where it has the property, is one more
+pub mark_more : (o : ℕ → Bool) (k n : ℕ) (w : Bool) → ((o n && eqb k n) || ((ltb k n && o k) || w)) ≡ ((ltb k (n + 1) && o k) || w)
+mark_more o k n w = grind (arith, nat_tests)
 
 -- the flags below n that two rows share
 abbrev pub Below : Row → Row → ℕ → Type 0

@@ -1,17 +1,11 @@
-use Rattle.std.proofs.Common.{sym, refl, ◌∙◌, arith}
+use Rattle.std.proofs.Common.{sym, ◌∙◌, arith}
 use Rattle.model.specs.View.{at}
 use Rattle.model.specs.declared.strike.Strike.TheVariants.{Changed}
 use Rattle.model.proofs.Counting.{waiting-<}
 use Rattle.model.proofs.Sizes.{size_same}
-use Rattle.narrowing.proofs.Steps.{progress_none, progress_same, progress_more, size_changed, narrowed_alive, narrowed_dead, dead_down}
-use Rattle.indexed.proofs.Steps.{pending_unchanged, pending_changed, seen_again}
+use Rattle.narrowing.proofs.Steps.{progress_same, progress_more, pending_unchanged, size_changed, narrowed_alive, narrowed_dead, dead_down}
+use Rattle.indexed.proofs.Steps.{pending_changed, seen_again}
 use Rattle.indexed.proofs.settle.Goals as goal
-
-pub waking-init : goal.waking-init
-waking-init g c = (progress_none _ _, λ s. (s.pending, λ f. refl))
-
-pub striking-init : goal.striking-init
-striking-init g c = ((λ f. refl), (λ p. p))
 
 pub striking-smaller : goal.striking-smaller
 striking-smaller g c =

@@ -1,16 +1,10 @@
-use Rattle.std.proofs.Common.{refl, ◌∙◌, arith}
+use Rattle.std.proofs.Common.{◌∙◌, arith}
 use Rattle.model.specs.View.{at}
 use Rattle.model.specs.declared.strike.Strike.TheVariants.{Changed}
 use Rattle.model.proofs.Sizes.{size_same}
 use Rattle.model.proofs.Counting.{waiting-<}
-use Rattle.narrowing.proofs.Steps.{progress_none, progress_same, progress_more, pending_unchanged, pending_changed, size_changed, narrowed_alive, narrowed_dead, dead_down}
+use Rattle.narrowing.proofs.Steps.{progress_same, progress_more, pending_unchanged, pending_changed, size_changed, narrowed_alive, narrowed_dead, dead_down}
 use Rattle.narrowing.proofs.settle.Goals as goal
-
-pub waking-init : goal.waking-init
-waking-init g c = (progress_none _ _, λ p. p)
-
-pub striking-init : goal.striking-init
-striking-init g c = ((λ f. refl), (λ p. p))
 
 pub striking-smaller : goal.striking-smaller
 striking-smaller g c =

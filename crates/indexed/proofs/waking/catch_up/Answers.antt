@@ -1,7 +1,5 @@
-use Rattle.std.proofs.Common.{cond, get_or, ap, ◌∙◌}
-use Rattle.std.proofs.lemmas.List.{take_all}
+use Rattle.std.proofs.Common.{get_or, ap, ◌∙◌}
 use Rattle.model.specs.Boxes.{with_set}
-use Rattle.model.specs.Rows.{elem}
 use Rattle.model.specs.View.{at}
 use Rattle.indexed.proofs.Wakes.{caught_more}
 use Rattle.indexed.proofs.waking.catch_up.Goals as goal
@@ -10,8 +8,3 @@ pub loop-flag-preserved : goal.loop-flag-preserved
 loop-flag-preserved c =
     caught_more (at c.args.b.now) (at c.args.seen.now) (at c.loop-flag.seen) (at c.put.new.self) c.args.flags.now c.loop-flag.flag-index c.loop-flag-test.true c.loop-flag.invariant
     (c.put.ensures ∙ ap (with_set (at c.loop-flag.seen) (get_or c.args.flags.now c.loop-flag.flag-index 0)) c.get.ensures)
-
-pub returns : goal.returns
-returns c f =
-    c.loop-flag.invariant f
-    ∙ ap (λ flags. cond (elem f flags) (at c.args.b.now f) (at c.args.seen.now f)) (take_all c.loop-flag.flag-index c.args.flags.now c.loop-flag-test.false)

@@ -5,9 +5,6 @@ use Rattle.narrowing.proofs.Wakes.{near_more}
 use Rattle.model.proofs.Workable.{flag_below}
 use Rattle.narrowing.proofs.waking.wake_neighbours.Goals as goal
 
-pub loop-flag-init : goal.loop-flag-init
-loop-flag-init g c k = (inr, λ h. ⊎_elim (λ s. absurd (omega (arith, s.1))) (λ b. b) h)
-
 pub loop-flag-preserved : goal.loop-flag-preserved
 loop-flag-preserved g c k =
     let rows = g.B.Book.rows c.args.book.now in
