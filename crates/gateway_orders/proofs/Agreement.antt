@@ -16,7 +16,8 @@ use Rattle.model.proofs.Stand.{box_laws}
 use Rattle.narrowing.specs.declared.Verdict.{Verdict}
 use Rattle.narrowing.specs.declared.Verdict.TheVariants.{Alive, Dead}
 use Rattle.gateway_orders.specs.Orders.{ToldAll}
-use Rattle.gateway_orders.specs.Telling.{Tells, Told}
+use Rattle.stories.specs.Telling.{Tells}
+use Rattle.gateway_orders.specs.Telling.{Told}
 use Rattle.gateway_orders.specs.declared.orders.Boxes.{Boxes}
 
 -- under the same facts the largest box is one

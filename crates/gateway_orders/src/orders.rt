@@ -1,5 +1,5 @@
 // One telling under three schedulers: they hand out the rows in different orders, and what comes of it is the same.
-ghost use Rattle.std.specs.Prelude.{◌≡◌, true, false, [], ◌≢◌};
+ghost use Rattle.std.specs.Prelude.{◌≡◌, true, false, []};
 ghost use Rattle.model.specs.Rows.{workable};
 ghost use Rattle.model.specs.View.{at};
 ghost use Rattle.model.specs.Waiting.{NoneWaits};
@@ -12,6 +12,7 @@ use crate::telling::{start, tell};
 use index::Index;
 use model::book::Book;
 use model::boxes::FlagBox;
+use model::fact::Fact;
 use narrowing::Verdict;
 use schedulers::lanes::Lanes;
 use schedulers::queue::Queue;
@@ -62,42 +63,14 @@ pub fn tell_all<B: Book>(
     index: &Index,
     orders: &mut Orders,
     boxes: &mut Boxes,
-    flag: u8,
-    value: bool,
+    fact: Fact,
 ) -> Verdict
-    ensures { Indexes (B.Book.rows book.now) index.now → ToldAll (workable (B.Book.rows book.now)) boxes.old flag value boxes.new result }
+    ensures { Indexes (B.Book.rows book.now) index.now → ToldAll (workable (B.Book.rows book.now)) boxes.old fact.flag fact.value boxes.new result }
 {
-    let verdict = tell(book, index, &mut orders.ring, &mut boxes.ring, flag, value);
-    tell(
-        book,
-        index,
-        &mut orders.queue,
-        &mut boxes.queue,
-        flag,
-        value,
-    );
-    tell(
-        book,
-        index,
-        &mut orders.lanes,
-        &mut boxes.lanes,
-        flag,
-        value,
-    );
+    let verdict = tell(book, index, &mut orders.ring, &mut boxes.ring, fact);
+    tell(book, index, &mut orders.queue, &mut boxes.queue, fact);
+    tell(book, index, &mut orders.lanes, &mut boxes.lanes, fact);
     verdict
-}
-
-// Whether two boxes are the same.
-fn same(a: &FlagBox, b: &FlagBox) -> bool
-    ensures yes { result ≡ true → at a.now ≡ at b.now }
-    ensures no { result ≡ false → at a.now ≢ at b.now }
-{
-    for flag in 0..=u8::MAX {
-        if a.get(flag) != b.get(flag) {
-            return false;
-        }
-    }
-    true
 }
 
 impl Boxes {
@@ -106,6 +79,6 @@ impl Boxes {
         ensures yes { result ≡ true → Agree self.now }
         ensures no { result ≡ false → Agree self.now → ⊥ }
     {
-        same(&self.ring, &self.queue) && same(&self.ring, &self.lanes)
+        self.ring == self.queue && self.ring == self.lanes
     }
 }
