@@ -4,7 +4,7 @@
 
 ghost use Rattle.std.specs.Prelude.{◌≡◌, if◌then◌else◌, codes};
 
-use index::Index;
+use indexed::Indexed;
 use joined::Joined;
 use model::book::Book;
 use orders::{Boxes, Orders, orders_with, start_all, tell_all};
@@ -32,10 +32,9 @@ fn tell_story(rt: &HostRuntime, story: Story<'_>) -> anyhow::Result<()> {
     let first = clauses_of(rt.alloc(), story.clauses)?;
     let mut orders = orders_with(first.count());
     let second = table_of(rt.alloc(), story.rules)?;
-    let book = Joined { first, second };
-    let index = Index::new(rt.alloc(), &book)?;
-    match start_all(&book, &index, &mut orders) {
-        Some(boxes) => tell_facts(rt, story, &book, &index, &mut orders, boxes),
+    let book = Indexed::new(rt.alloc(), Joined { first, second })?;
+    match start_all(&book, &mut orders) {
+        Some(boxes) => tell_facts(rt, story, &book, &mut orders, boxes),
         None => {
             rt.println("The rules contradict one another: nothing fits them.")?;
             Ok(())
@@ -47,8 +46,7 @@ fn tell_story(rt: &HostRuntime, story: Story<'_>) -> anyhow::Result<()> {
 fn tell_facts<B: Book>(
     rt: &HostRuntime,
     story: Story<'_>,
-    book: &B,
-    index: &Index,
+    book: &Indexed<B>,
     orders: &mut Orders,
     mut boxes: Boxes,
 ) -> anyhow::Result<()> {
@@ -63,7 +61,7 @@ fn tell_facts<B: Book>(
         let fact = *fact;
         rt.println(FactTold { flags, fact })?;
         let before = boxes.ring;
-        let verdict = tell_all(book, index, orders, &mut boxes, fact);
+        let verdict = tell_all(book, orders, &mut boxes, fact);
         let struck = StruckOut {
             flags,
             before: &before,

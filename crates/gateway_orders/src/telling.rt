@@ -1,11 +1,9 @@
 ghost use Rattle.model.specs.Rows.{workable};
 ghost use Rattle.model.specs.View.{at};
-ghost use Rattle.index.specs.Indexes.{Indexes};
 ghost use Rattle.stories.specs.Telling.{Started};
 ghost use Rattle.gateway_orders.specs.Telling.{Told};
 
-use index::Index;
-use indexed::{narrow, narrow_to};
+use indexed::Indexed;
 use model::book::Book;
 use model::boxes::FlagBox;
 use model::fact::Fact;
@@ -14,11 +12,11 @@ use narrowing::Verdict;
 use stories::telling::put_back;
 
 // The largest box under no facts, or none where the rules contradict one another: then it is dead.
-pub fn start<B: Book, S: Scheduler>(book: &B, index: &Index, scheduler: &mut S) -> Option<FlagBox>
-    ensures { Indexes (B.Book.rows book.now) index.now → Started (workable (B.Book.rows book.now)) result }
+pub fn start<B: Book, S: Scheduler>(book: &Indexed<B>, scheduler: &mut S) -> Option<FlagBox>
+    ensures { Started (workable (B.Book.rows book.now)) result }
 {
     let mut b = FlagBox::all_open();
-    match narrow(book, index, scheduler, &mut b) {
+    match book.narrow(scheduler, &mut b) {
         Verdict::Alive => Some(b),
         Verdict::Dead => None,
     }
@@ -27,16 +25,15 @@ pub fn start<B: Book, S: Scheduler>(book: &B, index: &Index, scheduler: &mut S) 
 // Tells one fact more to the largest box under the facts so far. Where it fits, the box is then the largest under all of them; where it
 // contradicts them, the box is as before.
 pub fn tell<B: Book, S: Scheduler>(
-    book: &B,
-    index: &Index,
+    book: &Indexed<B>,
     scheduler: &mut S,
     b: &mut FlagBox,
     fact: Fact,
 ) -> Verdict
-    ensures { Indexes (B.Book.rows book.now) index.now → Told (workable (B.Book.rows book.now)) (at b.old) fact.flag fact.value (at b.new) result }
+    ensures { Told (workable (B.Book.rows book.now)) (at b.old) fact.flag fact.value (at b.new) result }
 {
     let before = *b;
-    let verdict = narrow_to(book, index, scheduler, b, fact.flag, fact.value);
+    let verdict = book.narrow_to(scheduler, b, fact);
     put_back(b, before, verdict);
     verdict
 }
