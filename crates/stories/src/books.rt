@@ -42,8 +42,8 @@ impl From<AddRefusal> for BookRefusal {
 impl fmt::Display for BookRefusal {
     fn fmt<W: fmt::Write>(&self, f: &mut fmt::Formatter<W>) -> fmt::Result {
         match self {
-            BookRefusal::NotMade(refusal) => write!(f, "{refusal}"),
-            BookRefusal::NotAdded(refusal) => write!(f, "{refusal}"),
+            BookRefusal::NotMade(reason) => write!(f, "{reason}"),
+            BookRefusal::NotAdded(reason) => write!(f, "{reason}"),
         }
     }
 }
