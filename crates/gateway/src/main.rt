@@ -1,193 +1,49 @@
 // Small books of rules, told facts one after another: what each fact strikes out, and what stays open, in sentences.
 #![tactic(auto)]
 
-ghost use Rattle.std.specs.Prelude.{◌≡◌, map, IfOk, if◌then◌else◌, codes};
-ghost use Rattle.table.specs.Relations.{row_of};
-ghost use Rattle.table.specs.Tables.{rows_of};
-
-use examples::{
-    FACTS_OF_FOUR, FACTS_OF_GATEWAY, FLAGS_OF_FOUR, FLAGS_OF_GATEWAY, OTHER_FACTS_OF_FOUR,
-    RULES_OF_FOUR, RULES_OF_GATEWAY,
-};
-use model::boxes::FlagBox;
-use model::domain::Domain;
-use narrowing::Verdict;
 use schedulers::ring::Ring;
-use table::relation::Relation;
-use table::table::Table;
+use stories::books::table_of;
+use stories::examples::{FOUR, FOUR_TOLD_OTHERWISE, GATEWAY};
+use stories::saying::{FactTold, Outcome, StillOpen, StruckOut};
+use stories::story::Story;
 use telling::{start, tell};
 
-mod examples;
 mod telling;
 
-// A flag with the value that it is said to have.
-#[derive(Clone, Copy)]
-struct Fact {
-    flag: u8,
-    value: bool,
-}
-
-// Rules over named flags, and the facts that a caller tells.
-#[derive(Clone, Copy)]
-struct Story<'a> {
-    title: &'a str,
-    // the name of each flag, at its number
-    flags: &'a [&'a str],
-    rules: &'a [Relation<usize>],
-    // told one after another
-    facts: &'a [Fact],
-}
-
-fn yes_or_no(value: bool) -> &'static str
-    ensures { result.now ≡ (if value then codes "yes" else codes "no") }
-{
-    if value { "yes" } else { "no" }
-}
-
-// The rules as a table.
-fn table_of(rt: &HostRuntime, rules: &[Relation<usize>]) -> anyhow::Result<Table>
-    ensures { IfOk result (λ t. rows_of t ≡ map row_of rules.now) }
-{
-    let mut table = Table::new(rt.alloc())?;
-    for rule in rules {
-        table.add(*rule)?;
-    }
-    Ok(table)
-}
-
-impl Story<'_> {
-    // Tells the facts, and says what each comes to.
-    fn tell(self, rt: &HostRuntime) -> anyhow::Result<()> {
-        let table = table_of(rt, self.rules)?;
-        let mut ring = Ring::new();
-        self.say_rules(rt)?;
-        let Some(mut b) = start(&table, &mut ring) else {
-            rt.println("The rules contradict one another: nothing fits them.")?;
-            return Ok(());
+// Tells the facts of a story, and says what each comes to.
+fn tell_story(rt: &HostRuntime, story: Story<'_>) -> anyhow::Result<()> {
+    let table = table_of(rt.alloc(), story.rules)?;
+    let flags = story.flags;
+    let mut ring = Ring::new();
+    print!(rt; "{story}")?;
+    let Some(mut b) = start(&table, &mut ring) else {
+        rt.println("The rules contradict one another: nothing fits them.")?;
+        return Ok(());
+    };
+    rt.println("Nothing is told yet.")?;
+    rt.println(StillOpen { flags, b: &b })?;
+    for fact in story.facts {
+        let fact = *fact;
+        rt.println(FactTold { flags, fact })?;
+        let before = b;
+        let verdict = tell(&table, &mut ring, &mut b, fact);
+        let struck = StruckOut {
+            flags,
+            before: &before,
+            after: &b,
         };
-        rt.println("Nothing is told yet.")?;
-        self.say_open(rt, &b)?;
-        for fact in self.facts {
-            self.say_fact(rt, *fact)?;
-            let before = b;
-            match tell(&table, &mut ring, &mut b, fact.flag, fact.value) {
-                Verdict::Alive => self.say_struck(rt, &before, &b)?,
-                Verdict::Dead => rt.println(
-                    "  That cannot be: no set of flags fits it together with what was told before, so it is not kept.",
-                )?,
-            }
-            self.say_open(rt, &b)?;
-        }
-        Ok(())
+        rt.print(Outcome { verdict, struck })?;
+        rt.println(StillOpen { flags, b: &b })?;
     }
-
-    // The name of a flag of a rule or a fact.
-    fn name(&self, flag: usize) -> &str {
-        match self.flags.get(flag) {
-            Some(name) => name,
-            None => "a flag without a name",
-        }
-    }
-
-    fn say_rules(&self, rt: &HostRuntime) -> anyhow::Result<()> {
-        let title = self.title;
-        println!(rt; "{title}")?;
-        for rule in self.rules {
-            self.say_rule(rt, *rule)?;
-        }
-        Ok(())
-    }
-
-    fn say_rule(&self, rt: &HostRuntime, rule: Relation<usize>) -> anyhow::Result<()> {
-        match rule {
-            Relation::Equal(x, y) => println!(rt; "  Rule: {} = {}.", self.name(x), self.name(y))?,
-            Relation::Not(x, y) => println!(rt;
-                "  Rule: not {} = {}.",
-                self.name(x),
-                self.name(y)
-            )?,
-            Relation::And(x, y, z) => println!(rt;
-                "  Rule: {} and {} = {}.",
-                self.name(x),
-                self.name(y),
-                self.name(z)
-            )?,
-            Relation::Or(x, y, z) => println!(rt;
-                "  Rule: {} or {} = {}.",
-                self.name(x),
-                self.name(y),
-                self.name(z)
-            )?,
-        }
-        Ok(())
-    }
-
-    fn say_fact(&self, rt: &HostRuntime, fact: Fact) -> anyhow::Result<()> {
-        let name = self.name(fact.flag as usize);
-        let value = yes_or_no(fact.value);
-        println!(rt; "Told: {name} is {value}.")?;
-        Ok(())
-    }
-
-    // Every value that the box had before and has no more. In a live box a flag that lost one has the other.
-    fn say_struck(
-        &self,
-        rt: &HostRuntime,
-        before: &FlagBox,
-        after: &FlagBox,
-    ) -> anyhow::Result<()> {
-        for flag in 0..=u8::MAX {
-            for value in [false, true] {
-                if before.get(flag).contains(value) && !after.get(flag).contains(value) {
-                    let name = self.name(flag as usize);
-                    let gone = yes_or_no(value);
-                    let left = yes_or_no(!value);
-                    println!(rt; "  Struck out: {name} cannot be {gone}, so it is {left}.")?;
-                }
-            }
-        }
-        Ok(())
-    }
-
-    // The flags that have a name and may still be either.
-    fn say_open(&self, rt: &HostRuntime, b: &FlagBox) -> anyhow::Result<()> {
-        print!(rt; "  Still open:")?;
-        let mut none = true;
-        for (flag, name) in (0..=u8::MAX).zip(self.flags) {
-            if b.get(flag) == Domain::Open {
-                let separator = if none { " " } else { ", " };
-                print!(rt; "{separator}{name}")?;
-                none = false;
-            }
-        }
-        rt.println(if none { " nothing." } else { "." })?;
-        Ok(())
-    }
+    Ok(())
 }
 
 fn run(rt: &HostRuntime) -> anyhow::Result<()> {
-    let four = Story {
-        title: "Four flags",
-        flags: &FLAGS_OF_FOUR,
-        rules: &RULES_OF_FOUR,
-        facts: &FACTS_OF_FOUR,
-    };
-    four.tell(rt)?;
+    tell_story(rt, FOUR)?;
     rt.println("")?;
-    let again = Story {
-        title: "Four flags, told otherwise",
-        facts: &OTHER_FACTS_OF_FOUR,
-        ..four
-    };
-    again.tell(rt)?;
+    tell_story(rt, FOUR_TOLD_OTHERWISE)?;
     rt.println("")?;
-    let gateway = Story {
-        title: "The gateway of a home battery",
-        flags: &FLAGS_OF_GATEWAY,
-        rules: &RULES_OF_GATEWAY,
-        facts: &FACTS_OF_GATEWAY,
-    };
-    gateway.tell(rt)
+    tell_story(rt, GATEWAY)
 }
 
 fn main(rt: HostRuntime) -> anyhow::Result<()> {

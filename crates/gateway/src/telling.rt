@@ -2,12 +2,15 @@ ghost use Rattle.model.specs.View.{at};
 ghost use Rattle.model.specs.Facts.{cut};
 ghost use Rattle.model.specs.Rows.{workable};
 ghost use Rattle.narrowing.specs.Narrowing.{Narrowed};
-ghost use Rattle.gateway.specs.Telling.{Started, Told};
+ghost use Rattle.stories.specs.Telling.{Started};
+ghost use Rattle.gateway.specs.Telling.{Told};
 
 use model::book::Book;
 use model::boxes::FlagBox;
+use model::fact::Fact;
 use model::scheduler::Scheduler;
 use narrowing::{Verdict, narrow};
+use stories::telling::put_back;
 
 // The largest box under no facts, or none where the rules contradict one another: then it is dead.
 pub fn start<B: Book, S: Scheduler>(book: &B, scheduler: &mut S) -> Option<FlagBox>
@@ -20,17 +23,16 @@ pub fn start<B: Book, S: Scheduler>(book: &B, scheduler: &mut S) -> Option<FlagB
     }
 }
 
-// Cuts a flag to a value and narrows from there.
+// Makes a fact true and narrows from there.
 fn narrow_cut<B: Book, S: Scheduler>(
     book: &B,
     scheduler: &mut S,
     b: &mut FlagBox,
-    flag: u8,
-    value: bool,
+    fact: Fact,
 ) -> Verdict
-    ensures { Narrowed (workable (B.Book.rows book.now)) (cut (at b.old) flag value) (at b.new) result }
+    ensures { Narrowed (workable (B.Book.rows book.now)) (cut (at b.old) fact.flag fact.value) (at b.new) result }
 {
-    b.cut(flag, value);
+    b.cut(fact.flag, fact.value);
     narrow(book, scheduler, b)
 }
 
@@ -40,15 +42,12 @@ pub fn tell<B: Book, S: Scheduler>(
     book: &B,
     scheduler: &mut S,
     b: &mut FlagBox,
-    flag: u8,
-    value: bool,
+    fact: Fact,
 ) -> Verdict
-    ensures { Told (workable (B.Book.rows book.now)) (at b.old) flag value (at b.new) result }
+    ensures { Told (workable (B.Book.rows book.now)) (at b.old) fact.flag fact.value (at b.new) result }
 {
     let before = *b;
-    let verdict = narrow_cut(book, scheduler, b, flag, value);
-    if let Verdict::Dead = verdict {
-        *b = before;
-    }
+    let verdict = narrow_cut(book, scheduler, b, fact);
+    put_back(b, before, verdict);
     verdict
 }

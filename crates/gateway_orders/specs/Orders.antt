@@ -6,7 +6,7 @@ use Rattle.model.specs.Boxes.{Box}
 use Rattle.model.specs.Facts.{Facts, no_facts, told, LargestUnder}
 use Rattle.model.specs.View.{at}
 use Rattle.narrowing.specs.declared.Verdict.{Verdict}
-use Rattle.gateway_orders.specs.Telling.{Tells}
+use Rattle.stories.specs.Telling.{Tells}
 use Rattle.gateway_orders.specs.declared.orders.Boxes.{Boxes}
 
 -- all orders came to the same box

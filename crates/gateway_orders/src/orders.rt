@@ -1,17 +1,17 @@
 // One telling under three schedulers: they hand out the rows in different orders, and what comes of it is the same.
-ghost use Rattle.std.specs.Prelude.{◌≡◌, true, false, [], ◌≢◌};
+ghost use Rattle.std.specs.Prelude.{◌≡◌, true, false, []};
 ghost use Rattle.model.specs.Rows.{workable};
 ghost use Rattle.model.specs.View.{at};
 ghost use Rattle.model.specs.Waiting.{NoneWaits};
 ghost use Rattle.schedulers.specs.Lines.{line};
 ghost use Rattle.schedulers.specs.Marks.{marked};
-ghost use Rattle.index.specs.Indexes.{Indexes};
 ghost use Rattle.gateway_orders.specs.Orders.{Agree, StartedAll, ToldAll};
 
 use crate::telling::{start, tell};
-use index::Index;
+use indexed::Indexed;
 use model::book::Book;
 use model::boxes::FlagBox;
+use model::fact::Fact;
 use narrowing::Verdict;
 use schedulers::lanes::Lanes;
 use schedulers::queue::Queue;
@@ -47,57 +47,28 @@ pub fn orders_with(boundary: u16) -> Orders
 }
 
 // The largest box under no facts, in every order, or none where the rules contradict one another.
-pub fn start_all<B: Book>(book: &B, index: &Index, orders: &mut Orders) -> Option<Boxes>
-    ensures { Indexes (B.Book.rows book.now) index.now → StartedAll (workable (B.Book.rows book.now)) result }
+pub fn start_all<B: Book>(book: &Indexed<B>, orders: &mut Orders) -> Option<Boxes>
+    ensures { StartedAll (workable (B.Book.rows book.now)) result }
 {
-    let ring = start(book, index, &mut orders.ring)?;
-    let queue = start(book, index, &mut orders.queue)?;
-    let lanes = start(book, index, &mut orders.lanes)?;
+    let ring = start(book, &mut orders.ring)?;
+    let queue = start(book, &mut orders.queue)?;
+    let lanes = start(book, &mut orders.lanes)?;
     Some(Boxes { ring, queue, lanes })
 }
 
 // Tells one fact more, in every order.
 pub fn tell_all<B: Book>(
-    book: &B,
-    index: &Index,
+    book: &Indexed<B>,
     orders: &mut Orders,
     boxes: &mut Boxes,
-    flag: u8,
-    value: bool,
+    fact: Fact,
 ) -> Verdict
-    ensures { Indexes (B.Book.rows book.now) index.now → ToldAll (workable (B.Book.rows book.now)) boxes.old flag value boxes.new result }
+    ensures { ToldAll (workable (B.Book.rows book.now)) boxes.old fact.flag fact.value boxes.new result }
 {
-    let verdict = tell(book, index, &mut orders.ring, &mut boxes.ring, flag, value);
-    tell(
-        book,
-        index,
-        &mut orders.queue,
-        &mut boxes.queue,
-        flag,
-        value,
-    );
-    tell(
-        book,
-        index,
-        &mut orders.lanes,
-        &mut boxes.lanes,
-        flag,
-        value,
-    );
+    let verdict = tell(book, &mut orders.ring, &mut boxes.ring, fact);
+    tell(book, &mut orders.queue, &mut boxes.queue, fact);
+    tell(book, &mut orders.lanes, &mut boxes.lanes, fact);
     verdict
-}
-
-// Whether two boxes are the same.
-fn same(a: &FlagBox, b: &FlagBox) -> bool
-    ensures yes { result ≡ true → at a.now ≡ at b.now }
-    ensures no { result ≡ false → at a.now ≢ at b.now }
-{
-    for flag in 0..=u8::MAX {
-        if a.get(flag) != b.get(flag) {
-            return false;
-        }
-    }
-    true
 }
 
 impl Boxes {
@@ -106,6 +77,9 @@ impl Boxes {
         ensures yes { result ≡ true → Agree self.now }
         ensures no { result ≡ false → Agree self.now → ⊥ }
     {
-        same(&self.ring, &self.queue) && same(&self.ring, &self.lanes)
+        (0..=u8::MAX).all(|flag| {
+            let set = self.ring.get(flag);
+            set == self.queue.get(flag) && set == self.lanes.get(flag)
+        })
     }
 }

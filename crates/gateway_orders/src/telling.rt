@@ -1,22 +1,22 @@
-ghost use Rattle.std.specs.Prelude.{◌≡◌};
 ghost use Rattle.model.specs.Rows.{workable};
 ghost use Rattle.model.specs.View.{at};
-ghost use Rattle.index.specs.Indexes.{Indexes};
-ghost use Rattle.gateway_orders.specs.Telling.{Started, Told, kept};
+ghost use Rattle.stories.specs.Telling.{Started};
+ghost use Rattle.gateway_orders.specs.Telling.{Told};
 
-use index::Index;
-use indexed::{narrow, narrow_to};
+use indexed::Indexed;
 use model::book::Book;
 use model::boxes::FlagBox;
+use model::fact::Fact;
 use model::scheduler::Scheduler;
 use narrowing::Verdict;
+use stories::telling::put_back;
 
 // The largest box under no facts, or none where the rules contradict one another: then it is dead.
-pub fn start<B: Book, S: Scheduler>(book: &B, index: &Index, scheduler: &mut S) -> Option<FlagBox>
-    ensures { Indexes (B.Book.rows book.now) index.now → Started (workable (B.Book.rows book.now)) result }
+pub fn start<B: Book, S: Scheduler>(book: &Indexed<B>, scheduler: &mut S) -> Option<FlagBox>
+    ensures { Started (workable (B.Book.rows book.now)) result }
 {
     let mut b = FlagBox::all_open();
-    match narrow(book, index, scheduler, &mut b) {
+    match book.narrow(scheduler, &mut b) {
         Verdict::Alive => Some(b),
         Verdict::Dead => None,
     }
@@ -25,26 +25,15 @@ pub fn start<B: Book, S: Scheduler>(book: &B, index: &Index, scheduler: &mut S) 
 // Tells one fact more to the largest box under the facts so far. Where it fits, the box is then the largest under all of them; where it
 // contradicts them, the box is as before.
 pub fn tell<B: Book, S: Scheduler>(
-    book: &B,
-    index: &Index,
+    book: &Indexed<B>,
     scheduler: &mut S,
     b: &mut FlagBox,
-    flag: u8,
-    value: bool,
+    fact: Fact,
 ) -> Verdict
-    ensures { Indexes (B.Book.rows book.now) index.now → Told (workable (B.Book.rows book.now)) (at b.old) flag value (at b.new) result }
+    ensures { Told (workable (B.Book.rows book.now)) (at b.old) fact.flag fact.value (at b.new) result }
 {
     let before = *b;
-    let verdict = narrow_to(book, index, scheduler, b, flag, value);
+    let verdict = book.narrow_to(scheduler, b, fact);
     put_back(b, before, verdict);
     verdict
-}
-
-// After a contradiction the box is again what it was before.
-fn put_back(b: &mut FlagBox, before: FlagBox, verdict: Verdict)
-    ensures { b.new ≡ kept verdict before b.old }
-{
-    if let Verdict::Dead = verdict {
-        *b = before;
-    }
 }

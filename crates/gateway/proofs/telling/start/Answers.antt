@@ -1,5 +1,5 @@
 use Rattle.model.specs.Rows.{workable}
-use Rattle.gateway.proofs.Outcomes.{starts_alive, starts_dead}
+use Rattle.stories.proofs.Outcomes.{starts_alive, starts_dead}
 use Rattle.gateway.proofs.telling.start.Goals as goal
 
 pub returns-in-Alive : goal.returns-in-Alive

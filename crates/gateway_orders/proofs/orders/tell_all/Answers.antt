@@ -3,4 +3,4 @@ use Rattle.gateway_orders.proofs.Agreement.{told_all}
 use Rattle.gateway_orders.proofs.orders.tell_all.Goals as goal
 
 pub returns : goal.returns
-returns g c = λ i. told_all (workable (g.B.Book.rows c.args.book.now)) c.args.boxes.now _ c.args.flag c.args.value _ _ _ (c.tell-verdict.ensures i) (c.tell.ensures i) (c.tell-2.ensures i)
+returns g c = told_all (workable (g.B.Book.rows c.args.book.now)) c.args.boxes.now _ c.args.fact.flag c.args.fact.value _ _ _ c.tell-verdict.ensures c.tell.ensures c.tell-2.ensures

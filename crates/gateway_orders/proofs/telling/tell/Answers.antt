@@ -1,7 +1,7 @@
 use Rattle.model.specs.Rows.{workable}
-use Rattle.gateway_orders.proofs.Outcomes.{tells_kept}
+use Rattle.stories.proofs.Outcomes.{tells_kept}
 use Rattle.gateway_orders.proofs.telling.tell.Goals as goal
 
 pub returns : goal.returns
 returns g c =
-    λ i held l a. tells_kept (workable (g.B.Book.rows c.args.book.now)) held c.args.flag c.args.value c.args.b.now _ l _ _ (c.narrow_to-verdict.ensures.narrowed (record { indexed = i; consistent = l.consistent; alive = a })) c.put_back.ensures
+    λ held l a. tells_kept (workable (g.B.Book.rows c.args.book.now)) held c.args.fact.flag c.args.fact.value c.args.b.now _ l _ _ (c.narrow_to-verdict.ensures.narrowed (record { alive = a; consistent = l.consistent })) c.put_back.ensures

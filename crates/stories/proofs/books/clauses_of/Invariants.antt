@@ -1,6 +1,6 @@
 use Rattle.std.proofs.Common.{◌≡◌, map, take}
 use Rattle.clauses.specs.Books.{clauses_of}
-use Rattle.gateway_orders.proofs.clauses_of.Given as goal
+use Rattle.stories.proofs.books.clauses_of.Given as goal
 
 -- the book has the clauses so far
 abbrev pub invariant-loop-clause : goal.invariant-loop-clause

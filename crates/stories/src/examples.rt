@@ -1,17 +1,19 @@
 // The flags, the rules and the facts of the two examples. A flag is known by its place in the list of names.
-use crate::Fact;
+use crate::flags::Flags;
+use crate::story::Story;
 use clauses::literal::Literal;
+use model::fact::Fact;
 use table::relation::Relation;
 use table::relation::Relation::{And, Equal, Not, Or};
 
-pub static FLAGS_OF_FOUR: [&str; 4] = ["x", "y", "z", "v"];
+const FLAGS_OF_FOUR: &[&str] = &["x", "y", "z", "v"];
 
-pub static NO_CLAUSES: [&[Literal<usize>]; 0] = [];
+const NO_CLAUSES: &[&[Literal<usize>]] = &[];
 
 // x and y = z, x and v = z, not y = v
-pub static RULES_OF_FOUR: [Relation<usize>; 3] = [And(0, 1, 2), And(0, 3, 2), Not(1, 3)];
+const RULES_OF_FOUR: &[Relation<usize>] = &[And(0, 1, 2), And(0, 3, 2), Not(1, 3)];
 
-pub static FACTS_OF_FOUR: [Fact; 2] = [
+const FACTS_OF_FOUR: &[Fact] = &[
     Fact {
         flag: 1,
         value: true,
@@ -22,12 +24,12 @@ pub static FACTS_OF_FOUR: [Fact; 2] = [
     },
 ];
 
-pub static OTHER_FACTS_OF_FOUR: [Fact; 1] = [Fact {
+const OTHER_FACTS_OF_FOUR: &[Fact] = &[Fact {
     flag: 0,
     value: true,
 }];
 
-pub static FLAGS_OF_GATEWAY: [&str; 13] = [
+const FLAGS_OF_GATEWAY: &[&str] = &[
     "mains voltage present",
     "meter seen",
     "mains usable",
@@ -43,7 +45,7 @@ pub static FLAGS_OF_GATEWAY: [&str; 13] = [
     "house has power",
 ];
 
-pub static RULES_OF_GATEWAY: [Relation<usize>; 8] = [
+const RULES_OF_GATEWAY: &[Relation<usize>] = &[
     And(0, 1, 2),
     Equal(2, 3),
     And(4, 5, 6),
@@ -54,7 +56,7 @@ pub static RULES_OF_GATEWAY: [Relation<usize>; 8] = [
     Or(3, 11, 12),
 ];
 
-pub static FACTS_OF_GATEWAY: [Fact; 4] = [
+const FACTS_OF_GATEWAY: &[Fact] = &[
     Fact {
         flag: 12,
         value: false,
@@ -75,7 +77,7 @@ pub static FACTS_OF_GATEWAY: [Fact; 4] = [
 
 // No charge in island mode. The lamp is on where neither the mains nor the backup supply serves the house. The meter is seen only where the
 // cells are warm enough or the mains voltage is present.
-pub static CLAUSES_OF_GATEWAY: [&[Literal<usize>]; 3] = [
+const CLAUSES_OF_GATEWAY: &[&[Literal<usize>]] = &[
     &[
         Literal {
             flag: 8,
@@ -116,7 +118,7 @@ pub static CLAUSES_OF_GATEWAY: [&[Literal<usize>]; 3] = [
     ],
 ];
 
-pub static FACTS_WITH_CLAUSES: [Fact; 3] = [
+const FACTS_WITH_CLAUSES: &[Fact] = &[
     Fact {
         flag: 12,
         value: false,
@@ -130,3 +132,36 @@ pub static FACTS_WITH_CLAUSES: [Fact; 3] = [
         value: true,
     },
 ];
+
+pub const FOUR: Story<'static> = Story {
+    title: "Four flags",
+    flags: Flags {
+        names: FLAGS_OF_FOUR,
+    },
+    clauses: NO_CLAUSES,
+    rules: RULES_OF_FOUR,
+    facts: FACTS_OF_FOUR,
+};
+
+pub const FOUR_TOLD_OTHERWISE: Story<'static> = Story {
+    title: "Four flags, told otherwise",
+    facts: OTHER_FACTS_OF_FOUR,
+    ..FOUR
+};
+
+pub const GATEWAY: Story<'static> = Story {
+    title: "The gateway of a home battery",
+    flags: Flags {
+        names: FLAGS_OF_GATEWAY,
+    },
+    clauses: NO_CLAUSES,
+    rules: RULES_OF_GATEWAY,
+    facts: FACTS_OF_GATEWAY,
+};
+
+pub const GATEWAY_WITH_CLAUSES: Story<'static> = Story {
+    title: "The gateway of a home battery, with clauses before the table",
+    clauses: CLAUSES_OF_GATEWAY,
+    facts: FACTS_WITH_CLAUSES,
+    ..GATEWAY
+};

@@ -10,7 +10,7 @@ use Rattle.model.proofs.Cutting.{largest_from, telling}
 use Rattle.narrowing.specs.Narrowing.{Narrowed}
 use Rattle.narrowing.specs.declared.Verdict.{Verdict}
 use Rattle.narrowing.specs.declared.Verdict.TheVariants.{Alive, Dead}
-use Rattle.gateway_orders.specs.Telling.{Tells, kept}
+use Rattle.stories.specs.Telling.{Tells, kept}
 
 -- narrowing the open box finds the largest one under no facts
 module _ (rows : List Row) (before after : Box) (e : before ≡ open_box) where

@@ -1,0 +1,22 @@
+-- The sentences that are said of a story.
+use Rattle.std.specs.Prelude.{ℕ, Bool, if◌then◌else◌, List, ◌++◌, codes, slice_get, option_map, unwrap_or}
+use Rattle.std.specs.Borrow.{Bor}
+use Rattle.model.specs.declared.fact.Fact.{Fact}
+use Rattle.table.specs.declared.relation.Relation.{Relation}
+use Rattle.table.specs.declared.relation.Relation.TheVariants.{Equal, Not, And, Or}
+
+-- the text at a flag's place in the list of names
+abbrev pub name_of : List (Bor (List ℕ)) → ℕ → List ℕ
+name_of names flag = unwrap_or (option_map (λ name. name.now) (slice_get names flag)) (codes "a flag without a name")
+
+abbrev pub yes_or_no : Bool → List ℕ
+yes_or_no value = if value then codes "yes" else codes "no"
+
+abbrev pub rule_text : List (Bor (List ℕ)) → Relation ℕ → List ℕ
+rule_text names (Equal x y) = codes "  Rule: " ++ name_of names x ++ codes " = " ++ name_of names y ++ codes "."
+rule_text names (Not x y) = codes "  Rule: not " ++ name_of names x ++ codes " = " ++ name_of names y ++ codes "."
+rule_text names (And x y z) = codes "  Rule: " ++ name_of names x ++ codes " and " ++ name_of names y ++ codes " = " ++ name_of names z ++ codes "."
+rule_text names (Or x y z) = codes "  Rule: " ++ name_of names x ++ codes " or " ++ name_of names y ++ codes " = " ++ name_of names z ++ codes "."
+
+abbrev pub told_text : List (Bor (List ℕ)) → Fact → List ℕ
+told_text names fact = codes "Told: " ++ name_of names fact.flag ++ codes " is " ++ yes_or_no fact.value ++ codes "."

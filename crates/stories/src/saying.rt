@@ -1,0 +1,165 @@
+// What is said of a story, in sentences.
+ghost use Rattle.std.specs.Prelude.{Some};
+ghost use Rattle.stories.specs.Words.{rule_text, told_text};
+
+use crate::flags::{Flags, yes_or_no};
+use crate::story::Story;
+use clauses::literal::Literal;
+use model::boxes::FlagBox;
+use model::domain::Domain;
+use model::fact::Fact;
+use narrowing::Verdict;
+use std::fmt;
+use table::relation::Relation;
+
+#[derive(Clone, Copy)]
+pub struct RuleInWords<'a> {
+    pub flags: Flags<'a>,
+    pub rule: Relation<usize>,
+}
+
+impl fmt::Display for RuleInWords<'_> {
+    ghost output = { λ said. Some (rule_text said.flags.names.now said.rule) };
+
+    fn fmt<W: fmt::Write>(&self, f: &mut fmt::Formatter<W>) -> fmt::Result {
+        let flags = self.flags;
+        match self.rule {
+            Relation::Equal(x, y) => write!(f, "  Rule: {} = {}.", flags.name(x), flags.name(y)),
+            Relation::Not(x, y) => write!(f, "  Rule: not {} = {}.", flags.name(x), flags.name(y)),
+            Relation::And(x, y, z) => write!(
+                f,
+                "  Rule: {} and {} = {}.",
+                flags.name(x),
+                flags.name(y),
+                flags.name(z)
+            ),
+            Relation::Or(x, y, z) => write!(
+                f,
+                "  Rule: {} or {} = {}.",
+                flags.name(x),
+                flags.name(y),
+                flags.name(z)
+            ),
+        }
+    }
+}
+
+#[derive(Clone, Copy)]
+pub struct ClauseInWords<'a> {
+    pub flags: Flags<'a>,
+    pub clause: &'a [Literal<usize>],
+}
+
+impl fmt::Display for ClauseInWords<'_> {
+    fn fmt<W: fmt::Write>(&self, f: &mut fmt::Formatter<W>) -> fmt::Result {
+        f.write_str("  Rule:")?;
+        let mut separator = " ";
+        for literal in self.clause {
+            let name = self.flags.name(literal.flag);
+            let value = yes_or_no(literal.positive);
+            write!(f, "{separator}{name} is {value}")?;
+            separator = ", or ";
+        }
+        f.write_str(".")
+    }
+}
+
+// The title and the rules, each on a line of its own.
+impl fmt::Display for Story<'_> {
+    fn fmt<W: fmt::Write>(&self, f: &mut fmt::Formatter<W>) -> fmt::Result {
+        let flags = self.flags;
+        let title = self.title;
+        writeln!(f, "{title}")?;
+        for clause in self.clauses {
+            writeln!(f, "{}", ClauseInWords { flags, clause })?;
+        }
+        for rule in self.rules {
+            writeln!(f, "{}", RuleInWords { flags, rule: *rule })?;
+        }
+        Ok(())
+    }
+}
+
+#[derive(Clone, Copy)]
+pub struct FactTold<'a> {
+    pub flags: Flags<'a>,
+    pub fact: Fact,
+}
+
+impl fmt::Display for FactTold<'_> {
+    ghost output = { λ said. Some (told_text said.flags.names.now said.fact) };
+
+    fn fmt<W: fmt::Write>(&self, f: &mut fmt::Formatter<W>) -> fmt::Result {
+        let name = self.flags.name(self.fact.flag as usize);
+        let value = yes_or_no(self.fact.value);
+        write!(f, "Told: {name} is {value}.")
+    }
+}
+
+// What a fact struck out, each value on a line of its own: those that the box had before and has no more. In a live box a flag that lost
+// one has the other.
+#[derive(Clone, Copy)]
+pub struct StruckOut<'a> {
+    pub flags: Flags<'a>,
+    pub before: &'a FlagBox,
+    pub after: &'a FlagBox,
+}
+
+impl fmt::Display for StruckOut<'_> {
+    fn fmt<W: fmt::Write>(&self, f: &mut fmt::Formatter<W>) -> fmt::Result {
+        for flag in 0..=u8::MAX {
+            for value in [false, true] {
+                if self.before.get(flag).contains(value) && !self.after.get(flag).contains(value) {
+                    let name = self.flags.name(flag as usize);
+                    let gone = yes_or_no(value);
+                    let left = yes_or_no(!value);
+                    writeln!(f, "  Struck out: {name} cannot be {gone}, so it is {left}.")?;
+                }
+            }
+        }
+        Ok(())
+    }
+}
+
+// The flags that have a name and may still be either.
+#[derive(Clone, Copy)]
+pub struct StillOpen<'a> {
+    pub flags: Flags<'a>,
+    pub b: &'a FlagBox,
+}
+
+impl fmt::Display for StillOpen<'_> {
+    fn fmt<W: fmt::Write>(&self, f: &mut fmt::Formatter<W>) -> fmt::Result {
+        f.write_str("  Still open:")?;
+        let mut none = true;
+        for (flag, name) in (0..=u8::MAX).zip(self.flags.names) {
+            if self.b.get(flag) == Domain::Open {
+                let separator = if none { " " } else { ", " };
+                write!(f, "{separator}{name}")?;
+                none = false;
+            }
+        }
+        f.write_str(if none { " nothing." } else { "." })
+    }
+}
+
+// What telling a fact came to: what it struck out, or that it cannot be.
+#[derive(Clone, Copy)]
+pub struct Outcome<'a> {
+    pub verdict: Verdict,
+    pub struck: StruckOut<'a>,
+}
+
+impl fmt::Display for Outcome<'_> {
+    fn fmt<W: fmt::Write>(&self, f: &mut fmt::Formatter<W>) -> fmt::Result {
+        match self.verdict {
+            Verdict::Alive => {
+                let struck = self.struck;
+                write!(f, "{struck}")
+            }
+            Verdict::Dead => f.write_str(
+                "  That cannot be: no set of flags fits it together with what was told before, so it is not kept.\n",
+            ),
+        }
+    }
+}
