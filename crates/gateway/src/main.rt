@@ -38,14 +38,10 @@ fn tell_story(rt: &HostRuntime, story: Story<'_>) -> anyhow::Result<()> {
     Ok(())
 }
 
-fn run(rt: &HostRuntime) -> anyhow::Result<()> {
-    tell_story(rt, FOUR)?;
-    rt.println("")?;
-    tell_story(rt, FOUR_TOLD_OTHERWISE)?;
-    rt.println("")?;
-    tell_story(rt, GATEWAY)
-}
-
 fn main(rt: HostRuntime) -> anyhow::Result<()> {
-    run(&rt)
+    tell_story(&rt, FOUR)?;
+    rt.println("")?;
+    tell_story(&rt, FOUR_TOLD_OTHERWISE)?;
+    rt.println("")?;
+    tell_story(&rt, GATEWAY)
 }

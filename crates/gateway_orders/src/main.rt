@@ -78,16 +78,12 @@ fn tell_facts<B: Book>(
     Ok(())
 }
 
-fn run(rt: &HostRuntime) -> anyhow::Result<()> {
-    tell_story(rt, FOUR)?;
-    rt.println("")?;
-    tell_story(rt, FOUR_TOLD_OTHERWISE)?;
-    rt.println("")?;
-    tell_story(rt, GATEWAY)?;
-    rt.println("")?;
-    tell_story(rt, GATEWAY_WITH_CLAUSES)
-}
-
 fn main(rt: HostRuntime) -> anyhow::Result<()> {
-    run(&rt)
+    tell_story(&rt, FOUR)?;
+    rt.println("")?;
+    tell_story(&rt, FOUR_TOLD_OTHERWISE)?;
+    rt.println("")?;
+    tell_story(&rt, GATEWAY)?;
+    rt.println("")?;
+    tell_story(&rt, GATEWAY_WITH_CLAUSES)
 }

@@ -1,6 +1,5 @@
 pub mod Bounds
 pub mod Lanes
-pub mod Lines
 pub mod Marks
 pub mod Queues
 pub mod Rings
