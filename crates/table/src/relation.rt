@@ -12,34 +12,13 @@ pub enum Relation<T> {
 }
 
 impl<T: Copy> Relation<T> {
-    pub(crate) fn first(self) -> T
-        ensures { result ≡ first self }
+    // What stands at its first, its second and its third place.
+    pub(crate) fn places(self) -> (T, T, Option<T>)
+        ensures { result ≡ (first self, second self, third self) }
     {
         match self {
-            Relation::Equal(x, _)
-            | Relation::Not(x, _)
-            | Relation::And(x, _, _)
-            | Relation::Or(x, _, _) => x,
-        }
-    }
-
-    pub(crate) fn second(self) -> T
-        ensures { result ≡ second self }
-    {
-        match self {
-            Relation::Equal(_, y)
-            | Relation::Not(_, y)
-            | Relation::And(_, y, _)
-            | Relation::Or(_, y, _) => y,
-        }
-    }
-
-    pub(crate) fn third(self) -> Option<T>
-        ensures { result ≡ third self }
-    {
-        match self {
-            Relation::Equal(_, _) | Relation::Not(_, _) => None,
-            Relation::And(_, _, z) | Relation::Or(_, _, z) => Some(z),
+            Relation::Equal(x, y) | Relation::Not(x, y) => (x, y, None),
+            Relation::And(x, y, z) | Relation::Or(x, y, z) => (x, y, Some(z)),
         }
     }
 
@@ -77,9 +56,7 @@ impl<T: Copy> Relation<T> {
         requires { F.IsAlwaysCallable test }
         ensures { MatchBool result (AtSomePlace (λ x. F.post test x true) self) (AtEachPlace (λ x. F.post test x false) self) }
     {
-        match self {
-            Relation::Equal(x, y) | Relation::Not(x, y) => test(x) || test(y),
-            Relation::And(x, y, z) | Relation::Or(x, y, z) => test(x) || test(y) || test(z),
-        }
+        let (x, y, z) = self.places();
+        test(x) || test(y) || z.is_some_and(test)
     }
 }

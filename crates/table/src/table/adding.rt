@@ -58,6 +58,6 @@ impl TryFrom<Relation<usize>> for Relation<u8> {
 fn names_twice(relation: Relation<u8>) -> bool
     ensures { result ≡ some_twice (flags_of relation) }
 {
-    let (x, y) = (relation.first(), relation.second());
-    x == y || relation.third().is_some_and(|z| z == x || z == y)
+    let (x, y, third) = relation.places();
+    x == y || third.is_some_and(|z| z == x || z == y)
 }

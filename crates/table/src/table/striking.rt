@@ -25,9 +25,11 @@ fn sets_of(relation: Relation<u8>, b: &FlagBox) -> Relation<Domain>
 fn put_sets(relation: Relation<u8>, sets: Relation<Domain>, b: &mut FlagBox)
     ensures { at b.new ≡ with_sets (parts relation) (parts sets) (at b.old) }
 {
-    b.put(relation.first(), sets.first());
-    b.put(relation.second(), sets.second());
-    if let (Some(flag), Some(set)) = (relation.third(), sets.third()) {
+    let (x, y, z) = relation.places();
+    let (set_x, set_y, set_z) = sets.places();
+    b.put(x, set_x);
+    b.put(y, set_y);
+    if let (Some(flag), Some(set)) = (z, set_z) {
         b.put(flag, set);
     }
 }
@@ -36,7 +38,8 @@ fn put_sets(relation: Relation<u8>, sets: Relation<Domain>, b: &mut FlagBox)
 fn verdict(before: Relation<Domain>, after: Relation<Domain>) -> Strike
     ensures { Tells result before after }
 {
-    if after.first() == Domain::Empty {
+    let (first, _, _) = after.places();
+    if first == Domain::Empty {
         Strike::Dead
     } else if after == before {
         Strike::Unchanged
