@@ -72,8 +72,8 @@ pub fn narrow<B: Book, S: Scheduler>(
     settle(book, index, scheduler, b)
 }
 
-// Makes a fact true, and narrows from there. In a box that was alive and consistent only the rows that have the fact's flag
-// can have lost support, so only they are woken at the start.
+// Makes a fact true, and narrows from there. In a box that was alive and consistent only the rows that have the fact's flag can have lost
+// support, so only they are woken at the start.
 pub fn narrow_to<B: Book, S: Scheduler>(
     book: &B,
     index: &Index,

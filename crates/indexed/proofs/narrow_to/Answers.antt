@@ -4,13 +4,15 @@ use Rattle.indexed.proofs.narrow_to.Goals as goal
 
 pub returns-in-Dead : goal.returns-in-Dead
 returns-in-Dead g c =
-    cut_dead _ (g.met.B.Book.proper c.args.book.now) c.args.index.now (at c.args.b.now) c.args.fact.flag c.args.fact.value _ c.in-Dead.ensures.after _ c.in-Dead.ensures.says c.clear.ensures
+    rw c.in-Dead.ensures.after
+    (cut_dead _ (g.met.B.Book.proper c.args.book.now) c.args.index.now (at c.args.b.now) c.args.fact.flag c.args.fact.value _ c.in-Dead.ensures.says c.clear.ensures)
 
 pub returns-in-Unchanged : goal.returns-in-Unchanged
 returns-in-Unchanged g c =
-    cut_idle _ (g.met.B.Book.proper c.args.book.now) c.args.index.now (at c.args.b.now) c.args.fact.flag c.args.fact.value _ c.in-Unchanged.ensures.after _ c.in-Unchanged.ensures.says.1 c.clear-in-Unchanged.ensures
+    rw c.in-Unchanged.ensures.after
+    (cut_idle _ (g.met.B.Book.proper c.args.book.now) c.args.index.now (at c.args.b.now) c.args.fact.flag c.args.fact.value _ c.in-Unchanged.ensures.says.1 c.clear-in-Unchanged.ensures)
 
 pub returns-in-Changed : goal.returns-in-Changed
 returns-in-Changed g c =
-    cut_settled _ (g.met.B.Book.proper c.args.book.now) c.args.index.now (at c.args.b.now) c.args.fact.flag c.args.fact.value _ c.in-Changed.ensures.after _
-    (g.S.Scheduler.waits c.args.scheduler.now) c.wake_flag.ensures c.in-Changed.ensures.says.0 _ _ _ c.settle.ensures
+    cut_settled _ (g.met.B.Book.proper c.args.book.now) c.args.index.now (at c.args.b.now) c.args.fact.flag c.args.fact.value _
+    (g.S.Scheduler.waits c.args.scheduler.now) c.wake_flag.ensures c.in-Changed.ensures.says.0 _ _ _ (rw c.in-Changed.ensures.after at c.settle.ensures)

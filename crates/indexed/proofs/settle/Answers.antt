@@ -12,43 +12,43 @@ striking-smaller g c =
     waiting-< _ _ (g.met.S.Scheduler.bounded c.striking.scheduler) c.in-Some.row c.in-Some.ensures.0 c.in-Some.ensures.1
 
 pub striking-preserved : goal.striking-preserved
-striking-preserved g c = (
-  (λ f. c.in-Unchanged.ensures.says.1 f ∙ c.striking.invariant.0 f),
-  (λ p. pending_unchanged _ _ _ c.in-Some.row (g.met.S.Scheduler.bounded c.striking.scheduler c.in-Some.row c.in-Some.ensures.0) _ _ c.in-Some.ensures.1 c.in-Unchanged.ensures (c.striking.invariant.1 p)),
-)
+striking-preserved g c = record {
+  progress = progress_same _ _ _ _ c.in-Unchanged.ensures.says.1 c.striking.invariant.progress;
+  pending = λ s. pending_unchanged _ _ _ c.in-Some.row (g.met.S.Scheduler.bounded c.striking.scheduler c.in-Some.row c.in-Some.ensures.0) _ _ c.in-Some.ensures.1 c.in-Unchanged.ensures (c.striking.invariant.pending s);
+  same = λ f. c.in-Unchanged.ensures.says.1 f ∙ c.striking.invariant.same f;
+}
 
 pub waking-smaller : goal.waking-smaller
 waking-smaller g c =
     let l = size_changed _ (g.met.B.Book.proper c.args.book.now) c.in-Some.row _ _ c.in-Changed.ensures in
-    omega (arith, l, size_same (at c.striking.b) (at c.waking.b) c.striking.invariant.0)
+    omega (arith, l, size_same (at c.striking.b) (at c.waking.b) c.striking.invariant.same)
 
 pub waking-preserved : goal.waking-preserved
-waking-preserved g c = (
-  progress_more _ c.in-Some.row (g.met.S.Scheduler.bounded c.striking.scheduler c.in-Some.row c.in-Some.ensures.0) _ _ _ Changed c.in-Changed.ensures c.in-Changed.ensures.says.0 (progress_same _ _ (at c.waking.b) (at c.striking.b) c.striking.invariant.0 c.waking.invariant.0),
-  (λ s. (
-    pending_changed _ _ _ c.in-Some.row (g.met.S.Scheduler.bounded c.striking.scheduler c.in-Some.row c.in-Some.ensures.0) _ _ c.in-Some.ensures.1
-        (g.met.B.Book.proper c.args.book.now) c.args.index.now s.indexed (at c.waking.seen) (λ f. (c.waking.invariant.1 s).1 f ∙ sym (c.striking.invariant.0 f)) _ c.flags_in-flags.ensures
-        _ c.in-Changed.ensures c.wake_losses.ensures (c.striking.invariant.1 (c.waking.invariant.1 s).0),
-    seen_again _ _ _ c.in-Some.row (g.met.S.Scheduler.bounded c.striking.scheduler c.in-Some.row c.in-Some.ensures.0) _ _ c.in-Some.ensures.1
-        (g.met.B.Book.proper c.args.book.now) c.args.index.now s.indexed (at c.waking.seen) (λ f. (c.waking.invariant.1 s).1 f ∙ sym (c.striking.invariant.0 f)) _ c.flags_in-flags.ensures
-        _ c.in-Changed.ensures c.catch_up.ensures,
-  )),
-)
+waking-preserved g c = record {
+  progress = progress_more _ c.in-Some.row (g.met.S.Scheduler.bounded c.striking.scheduler c.in-Some.row c.in-Some.ensures.0) _ _ _ Changed c.in-Changed.ensures c.in-Changed.ensures.says.0 c.striking.invariant.progress;
+  pending = λ s.
+      pending_changed _ _ _ c.in-Some.row (g.met.S.Scheduler.bounded c.striking.scheduler c.in-Some.row c.in-Some.ensures.0) _ _ c.in-Some.ensures.1
+      (g.met.B.Book.proper c.args.book.now) c.args.index.now s.indexed (at c.waking.seen) (λ f. c.waking.invariant.seen s f ∙ sym (c.striking.invariant.same f)) _ c.flags_in-flags.ensures
+      _ c.in-Changed.ensures c.wake_losses.ensures (c.striking.invariant.pending s);
+  seen = λ s.
+      seen_again _ _ _ c.in-Some.row (g.met.S.Scheduler.bounded c.striking.scheduler c.in-Some.row c.in-Some.ensures.0) _ _ c.in-Some.ensures.1
+      (g.met.B.Book.proper c.args.book.now) c.args.index.now s.indexed (at c.waking.seen) (λ f. c.waking.invariant.seen s f ∙ sym (c.striking.invariant.same f)) _ c.flags_in-flags.ensures
+      _ c.in-Changed.ensures c.catch_up.ensures;
+}
 
 pub returns-in_default : goal.returns-in_default
 returns-in_default g c =
     record {
-      down = (progress_same _ _ (at c.waking.b) (at c.striking.b) c.striking.invariant.0 c.waking.invariant.0).down;
+      down = c.striking.invariant.progress.down;
       quiet = λ k. c.in_default.ensures.1 k ∙ c.in_default.ensures.0 k;
-      narrowed = λ s.
-          narrowed_alive _ _ (at c.striking.b) _ c.in_default.ensures.0 (c.striking.invariant.1 (c.waking.invariant.1 s).0) s.alive (progress_same _ _ (at c.waking.b) (at c.striking.b) c.striking.invariant.0 c.waking.invariant.0);
+      narrowed = λ s. narrowed_alive _ _ _ _ c.in_default.ensures.0 (c.striking.invariant.pending s) s.alive c.striking.invariant.progress;
     }
 
 pub returns-in-Dead : goal.returns-in-Dead
 returns-in-Dead g c =
     record {
-      down = dead_down _ c.in-Some.row (g.met.S.Scheduler.bounded c.striking.scheduler c.in-Some.row c.in-Some.ensures.0) _ _ _ c.in-Dead.ensures (progress_same _ _ (at c.waking.b) (at c.striking.b) c.striking.invariant.0 c.waking.invariant.0);
+      down = dead_down _ c.in-Some.row (g.met.S.Scheduler.bounded c.striking.scheduler c.in-Some.row c.in-Some.ensures.0) _ _ _ c.in-Dead.ensures c.striking.invariant.progress;
       quiet = c.clear.ensures;
       narrowed = λ s.
-          narrowed_dead _ c.in-Some.row (g.met.S.Scheduler.bounded c.striking.scheduler c.in-Some.row c.in-Some.ensures.0) _ _ _ (g.met.B.Book.proper c.args.book.now) c.in-Dead.ensures (progress_same _ _ (at c.waking.b) (at c.striking.b) c.striking.invariant.0 c.waking.invariant.0);
+          narrowed_dead _ c.in-Some.row (g.met.S.Scheduler.bounded c.striking.scheduler c.in-Some.row c.in-Some.ensures.0) _ _ _ (g.met.B.Book.proper c.args.book.now) c.in-Dead.ensures c.striking.invariant.progress;
     }

@@ -1,26 +1,29 @@
 use Rattle.std.proofs.Common.{◌≡◌, ℕ}
-use Rattle.model.specs.View.{at}
-use Rattle.model.proofs.Sizes.{size}
 use Rattle.model.specs.Rows.{workable}
-use Rattle.narrowing.specs.Narrowing.{Pending}
+use Rattle.model.specs.View.{at}
 use Rattle.model.proofs.Counting.{waiting}
+use Rattle.model.proofs.Sizes.{size}
+use Rattle.narrowing.specs.Narrowing.{Pending}
 use Rattle.narrowing.proofs.Steps.{Progress}
 use Rattle.narrowing.proofs.settle.Given as goal
 
--- the box is as the outer turn found it; each row still waits or is settled
+-- the largest box is kept, each row waits or is settled, and the box is as the outer turn found it
 abbrev pub invariant-striking : goal.invariant-striking
-invariant-striking g l =
-    ((f : ℕ) → at l.b f ≡ at l.initial.b f)
-    × (Pending (workable (g.B.Book.rows l.book)) (g.S.Scheduler.waits l.initial.scheduler) (at l.initial.b) → Pending (workable (g.B.Book.rows l.book)) (g.S.Scheduler.waits l.scheduler) (at l.b))
+invariant-striking g l = record {
+  progress : Progress (workable (g.B.Book.rows l.book)) (at l.fn.b) (at l.b);
+  pending : Pending (workable (g.B.Book.rows l.book)) (g.S.Scheduler.waits l.fn.scheduler) (at l.fn.b) → Pending (workable (g.B.Book.rows l.book)) (g.S.Scheduler.waits l.scheduler) (at l.b);
+  same : (f : ℕ) → at l.b f ≡ at l.initial.b f;
+}
 
 abbrev pub decreases-striking : goal.decreases-striking
 decreases-striking g l = waiting (g.S.Scheduler.waits l.scheduler)
 
--- the largest box is kept; each row waits or is settled
+-- the largest box is kept, and each row waits or is settled
 abbrev pub invariant-waking : goal.invariant-waking
-invariant-waking g l =
-    Progress (workable (g.B.Book.rows l.book)) (at l.initial.b) (at l.b)
-    × (Pending (workable (g.B.Book.rows l.book)) (g.S.Scheduler.waits l.initial.scheduler) (at l.initial.b) → Pending (workable (g.B.Book.rows l.book)) (g.S.Scheduler.waits l.scheduler) (at l.b))
+invariant-waking g l = record {
+  progress : Progress (workable (g.B.Book.rows l.book)) (at l.fn.b) (at l.b);
+  pending : Pending (workable (g.B.Book.rows l.book)) (g.S.Scheduler.waits l.fn.scheduler) (at l.fn.b) → Pending (workable (g.B.Book.rows l.book)) (g.S.Scheduler.waits l.scheduler) (at l.b);
+}
 
 abbrev pub decreases-waking : goal.decreases-waking
 decreases-waking g l = size (at l.b)
