@@ -1,5 +1,5 @@
 -- Why all orders come to the same box.
-use Rattle.std.proofs.Common.{◌≡◌, ℕ, ◌+◌, ◌-◌, ◌<◌, suc, MatchBool, ◌∷◌, length, Option, Bool, true, false, List, sym, refl, ap, ◌∙◌, subst, ⊎_elim, arith}
+use Rattle.std.proofs.Common.{◌≡◌, ℕ, ◌+◌, ◌-◌, ◌<◌, suc, MatchBool, ◌∷◌, length, Option, Bool, true, false, List, sym, refl, ap, ◌∙◌, subst, ⊎_elim, not, arith, rules}
 use mathlib.Core.Path.{fun_ext}
 use Rattle.std.proofs.lemmas.Iterator.{YieldsList}
 use Rattle.std.proofs.lemmas.Iterator.Consumers.{YieldsList-from_shown}
@@ -7,7 +7,10 @@ use Rattle.std.specs.Range.{range_inclusive_start, range_inclusive_left, range_i
 use Rattle.std.specs.declared.ops.RangeInclusive.{RangeInclusive}
 use Rattle.std.specs.List.{range_with_len, AllWithin}
 use Rattle.std.proofs.lemmas.List.FromFn.{length-range_with_len, get_or-range_with_len}
-use Rattle.std.proofs.lemmas.Bool.{cases_lt}
+use denote.Enum.Bare.{sameb, same_true}
+use Rattle.std.proofs.lemmas.Bool.{cases_eq, cases_lt, not-false}
+use Rattle.model.specs.contracts.domain.Domain.{the_type}
+use Rattle.model.specs.declared.domain.Domain.{Domain}
 use Rattle.model.specs.Rows.{Row}
 use Rattle.model.specs.Boxes as boxes
 use Rattle.model.specs.Boxes.{Box}
@@ -100,3 +103,12 @@ module _ (b : Boxes) (s : RangeInclusive ℕ) (start : range_inclusive_start s �
       let here = get_or-range_with_len (range_inclusive_start s) (left s) f 0 (omega arith) in
       subst (Same b) (omega arith) (all f 0 (omega arith) (omega (arith, length-range_with_len (range_inclusive_start s) (left s)))) in
       (same_box b.ring b.queue (λ f l. (same f l).0), same_box b.ring b.lanes (λ f l. (same f l).1))
+
+-- boxes that are the same at every flag up to the last one are the same
+pub same_all : (a b : FlagBox) (n : ℕ) (x y : Domain) → ((f : ℕ) → f < n → at a f ≡ at b f) → x ≡ at a n → y ≡ at b n → false ≡ not (sameb the_type x y) → n ≡ 255 → at a ≡ at b
+same_all a b n x y so_far p q h l =
+    let e : x ≡ y = same_true the_type (search rules) x y (not-false (sameb the_type x y) (sym h)) in
+    fun_ext (λ f. ⊎_elim
+    (λ k. so_far f k)
+    (λ k. ⊎_elim (λ i. ap (at a) i ∙ sym p ∙ e ∙ q ∙ ap (at b) (sym i)) (λ i. past_open a f (omega arith) ∙ sym (past_open b f (omega arith))) (cases_eq f n))
+    (cases_lt f n))
