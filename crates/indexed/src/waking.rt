@@ -2,11 +2,10 @@
 ghost use Rattle.std.specs.Prelude.{◌≡◌, ℕ, ◌||◌, [], ◌∷◌, None};
 ghost use Rattle.model.specs.View.{at};
 ghost use Rattle.index.specs.Indexes.{rows_with};
-ghost use Rattle.indexed.specs.Waking.{WokenEach, WokenFor, CaughtUp, left_out, differ, woken_at};
+ghost use Rattle.indexed.specs.Waking.{WokenEach, WokenFor, CaughtUp, left_out, woken_at};
 
 use index::Index;
 use model::boxes::FlagBox;
-use model::domain::Domain;
 use model::scheduler::Scheduler;
 
 // Whether the number is the one that is left out.
@@ -41,13 +40,6 @@ pub(crate) fn wake_flag<S: Scheduler>(index: &Index, scheduler: &mut S, flag: u8
     wake_each(scheduler, None, index.rows_with(flag));
 }
 
-// Whether the sets differ.
-fn differ(before: Domain, after: Domain) -> bool
-    ensures { result ≡ differ before after }
-{
-    before != after
-}
-
 // Wakes the rows that have the flag, but for the given one, if the flag lost a value.
 fn wake_if_lost<S: Scheduler>(
     index: &Index,
@@ -59,7 +51,7 @@ fn wake_if_lost<S: Scheduler>(
 )
     ensures { (k : ℕ) → S.Scheduler.waits scheduler.new k ≡ (woken_at index.now (at before.now) (at after.now) row k flag || S.Scheduler.waits scheduler.old k) }
 {
-    if differ(before.get(flag), after.get(flag)) {
+    if before.get(flag) != after.get(flag) {
         wake_each(scheduler, Some(row), index.rows_with(flag));
     }
 }
