@@ -1,7 +1,10 @@
 -- The sentences that are said of a story.
-use Rattle.std.specs.Prelude.{ℕ, Bool, if◌then◌else◌, List, ◌++◌, codes, slice_get, option_map, unwrap_or}
+use Rattle.std.specs.Prelude.{ℕ, Bool, if◌then◌else◌, List, [], ◌∷◌, ◌++◌, Some, None, Option, codes, slice_get, option_map, unwrap_or}
 use Rattle.std.specs.Borrow.{Bor}
 use Rattle.model.specs.declared.fact.Fact.{Fact}
+use Rattle.clauses.specs.declared.literal.Literal.{Literal}
+use Rattle.narrowing.specs.declared.Verdict.{Verdict}
+use Rattle.narrowing.specs.declared.Verdict.TheVariants.{Alive, Dead}
 use Rattle.table.specs.declared.relation.Relation.{Relation}
 use Rattle.table.specs.declared.relation.Relation.TheVariants.{Equal, Not, And, Or}
 
@@ -20,3 +23,16 @@ rule_text names (Or x y z) = codes "  Rule: " ++ name_of names x ++ codes " or "
 
 abbrev pub told_text : List (Bor (List ℕ)) → Fact → List ℕ
 told_text names fact = codes "Told: " ++ name_of names fact.flag ++ codes " is " ++ yes_or_no fact.value ++ codes "."
+
+-- literals one after another, the first after one separator and each other after another
+abbrev pub literals_text : List (Bor (List ℕ)) → List ℕ → List ℕ → List (Literal ℕ) → List ℕ
+literals_text names first next [] = []
+literals_text names first next (l ∷ ls) = first ++ name_of names l.flag ++ codes " is " ++ yes_or_no l.positive ++ literals_text names next next ls
+
+abbrev pub clause_text : List (Bor (List ℕ)) → List (Literal ℕ) → List ℕ
+clause_text names ls = codes "  Rule:" ++ literals_text names (codes " ") (codes ", or ") ls ++ codes "."
+
+-- a contradiction is said so; what was struck out has no text here
+abbrev pub outcome_text : Verdict → Option (List ℕ)
+outcome_text Alive = None
+outcome_text Dead = Some (codes "  That cannot be: no set of flags fits it together with what was told before, so it is not kept." ++ 10 ∷ [])
