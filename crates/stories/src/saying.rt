@@ -1,6 +1,6 @@
 // What is said of a story, in sentences.
 ghost use Rattle.std.specs.Prelude.{Some};
-ghost use Rattle.stories.specs.Words.{clause_text, outcome_text, rule_text, told_text};
+ghost use Rattle.stories.specs.Words.{clause_text, outcome_text, rule_text, story_text, told_text};
 
 use crate::flags::{Flags, yes_or_no};
 use crate::story::Story;
@@ -68,6 +68,8 @@ impl fmt::Display for ClauseInWords<'_> {
 
 // The title and the rules, each on a line of its own.
 impl fmt::Display for Story<'_> {
+    ghost output = { λ story. Some (story_text story) };
+
     fn fmt<W: fmt::Write>(&self, f: &mut fmt::Formatter<W>) -> fmt::Result {
         let flags = self.flags;
         let title = self.title;
