@@ -1,9 +1,14 @@
 -- The sentences that are said of a story.
-use Rattle.std.specs.Prelude.{ℕ, Bool, if◌then◌else◌, List, ◌++◌, codes, slice_get, option_map, unwrap_or}
+use Rattle.std.specs.Prelude.{ℕ, Bool, if◌then◌else◌, List, [], ◌∷◌, ◌++◌, Some, None, Option, codes, slice_get, option_map, unwrap_or}
 use Rattle.std.specs.Borrow.{Bor}
+use Rattle.std.specs.List.{flat_map}
 use Rattle.model.specs.declared.fact.Fact.{Fact}
+use Rattle.clauses.specs.declared.literal.Literal.{Literal}
+use Rattle.narrowing.specs.declared.Verdict.{Verdict}
+use Rattle.narrowing.specs.declared.Verdict.TheVariants.{Alive, Dead}
 use Rattle.table.specs.declared.relation.Relation.{Relation}
 use Rattle.table.specs.declared.relation.Relation.TheVariants.{Equal, Not, And, Or}
+use Rattle.stories.specs.declared.story.Story.{Story}
 
 -- the text at a flag's place in the list of names
 abbrev pub name_of : List (Bor (List ℕ)) → ℕ → List ℕ
@@ -20,3 +25,24 @@ rule_text names (Or x y z) = codes "  Rule: " ++ name_of names x ++ codes " or "
 
 abbrev pub told_text : List (Bor (List ℕ)) → Fact → List ℕ
 told_text names fact = codes "Told: " ++ name_of names fact.flag ++ codes " is " ++ yes_or_no fact.value ++ codes "."
+
+-- literals one after another, the first after one separator and each other after another
+abbrev pub literals_text : List (Bor (List ℕ)) → List ℕ → List ℕ → List (Literal ℕ) → List ℕ
+literals_text names first next [] = []
+literals_text names first next (l ∷ ls) = first ++ name_of names l.flag ++ codes " is " ++ yes_or_no l.positive ++ literals_text names next next ls
+
+abbrev pub clause_text : List (Bor (List ℕ)) → List (Literal ℕ) → List ℕ
+clause_text names ls = codes "  Rule:" ++ literals_text names (codes " ") (codes ", or ") ls ++ codes "."
+
+-- a contradiction is said so; what was struck out has no text here
+abbrev pub outcome_text : Verdict → Option (List ℕ)
+outcome_text Alive = None
+outcome_text Dead = Some (codes "  That cannot be: no set of flags fits it together with what was told before, so it is not kept." ++ 10 ∷ [])
+
+-- the title, the clauses and the rules, each on a line of its own
+abbrev pub story_text : Story → List ℕ
+story_text story =
+    let names = story.flags.names.now in
+    (story.title.now ++ 10 ∷ [])
+    ++ (flat_map (λ clause. clause_text names clause.now ++ 10 ∷ []) story.clauses.now
+    ++ flat_map (λ rule. rule_text names rule ++ 10 ∷ []) story.rules.now)

@@ -1,6 +1,6 @@
 // What is said of a story, in sentences.
 ghost use Rattle.std.specs.Prelude.{Some};
-ghost use Rattle.stories.specs.Words.{rule_text, told_text};
+ghost use Rattle.stories.specs.Words.{clause_text, outcome_text, rule_text, story_text, told_text};
 
 use crate::flags::{Flags, yes_or_no};
 use crate::story::Story;
@@ -51,6 +51,8 @@ pub struct ClauseInWords<'a> {
 }
 
 impl fmt::Display for ClauseInWords<'_> {
+    ghost output = { λ said. Some (clause_text said.flags.names.now said.clause.now) };
+
     fn fmt<W: fmt::Write>(&self, f: &mut fmt::Formatter<W>) -> fmt::Result {
         f.write_str("  Rule:")?;
         let mut separator = " ";
@@ -66,6 +68,8 @@ impl fmt::Display for ClauseInWords<'_> {
 
 // The title and the rules, each on a line of its own.
 impl fmt::Display for Story<'_> {
+    ghost output = { λ story. Some (story_text story) };
+
     fn fmt<W: fmt::Write>(&self, f: &mut fmt::Formatter<W>) -> fmt::Result {
         let flags = self.flags;
         let title = self.title;
@@ -143,6 +147,8 @@ impl fmt::Display for StillOpen<'_> {
     }
 }
 
+const CONTRADICTION: &str = "  That cannot be: no set of flags fits it together with what was told before, so it is not kept.";
+
 // What telling a fact came to: what it struck out, or that it cannot be.
 #[derive(Clone, Copy)]
 pub struct Outcome<'a> {
@@ -151,15 +157,15 @@ pub struct Outcome<'a> {
 }
 
 impl fmt::Display for Outcome<'_> {
+    ghost output = { λ said. outcome_text said.verdict };
+
     fn fmt<W: fmt::Write>(&self, f: &mut fmt::Formatter<W>) -> fmt::Result {
         match self.verdict {
             Verdict::Alive => {
                 let struck = self.struck;
                 write!(f, "{struck}")
             }
-            Verdict::Dead => f.write_str(
-                "  That cannot be: no set of flags fits it together with what was told before, so it is not kept.\n",
-            ),
+            Verdict::Dead => writeln!(f, "{CONTRADICTION}"),
         }
     }
 }

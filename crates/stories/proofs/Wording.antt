@@ -1,0 +1,24 @@
+-- The literals of a clause, written one after another.
+use Rattle.std.proofs.Common.{◌≡◌, ℕ, ◌+◌, ◌<◌, ◌==◌, if◌then◌else◌, List, [], ◌∷◌, ◌++◌, codes, length, get_or, take, sym, ap, ◌∙◌, arith}
+use Rattle.std.proofs.lemmas.Bool.Decides.{nat_tests}
+use Rattle.std.specs.Borrow.{Bor}
+use Rattle.std.proofs.lemmas.List.{take_more, length-take-le, append-nil}
+use mathlib.Core.List.{append_assoc}
+use Rattle.clauses.specs.declared.literal.Literal.{Literal}
+use Rattle.stories.specs.Words.{name_of, yes_or_no, literals_text}
+
+module _ (names : List (Bor (List ℕ))) where
+  abbrev words : Literal ℕ → List ℕ
+  words l = name_of names l.flag ++ (codes " is " ++ yes_or_no l.positive)
+
+  later : (next : List ℕ) (ls : List (Literal ℕ)) (l : Literal ℕ) → literals_text names next next (ls ++ l ∷ []) ≡ literals_text names next next ls ++ (next ++ words l)
+  later next [] l = simp (append_assoc, append-nil)
+  later next (m ∷ ms) l = simp (later next ms l, append_assoc)
+
+  last : (first next : List ℕ) (i : ℕ) (ls : List (Literal ℕ)) (l : Literal ℕ) → length ls ≡ i → literals_text names first next (ls ++ l ∷ []) ≡ literals_text names first next ls ++ ((if i == 0 then first else next) ++ words l)
+  last first next i [] l e = rw (← e) (simp (append_assoc, append-nil))
+  last first next i (m ∷ ms) l e = let other : (if i == 0 then first else next) ≡ next = grind (arith, nat_tests) in rw other (simp (later next ms l, append_assoc))
+
+  pub literals_more : (first next : List ℕ) (ls : List (Literal ℕ)) (i : ℕ) (d : Literal ℕ) (separator name value : List ℕ) → i < length ls → separator ≡ (if i == 0 then first else next) → name ≡ name_of names (get_or ls i d).flag → value ≡ yes_or_no (get_or ls i d).positive → literals_text names first next (take i ls) ++ (separator ++ (name ++ (codes " is " ++ value))) ≡ literals_text names first next (take (i + 1) ls)
+  literals_more first next ls i d separator name value l s n v =
+      rw (s, n, v) (sym (ap (literals_text names first next) (take_more ls i d l) ∙ last first next i (take i ls) (get_or ls i d) (length-take-le i ls (omega arith))))
