@@ -1,6 +1,6 @@
-ghost use Rattle.std.specs.Prelude.{◌≡◌, ◌<◌, ◌≤◌, false, length, MatchOption};
+ghost use Rattle.std.specs.Prelude.{◌≡◌, ◌<◌, false, length, MatchOption};
 ghost use Rattle.model.specs.Refusals.{some_twice};
-ghost use Rattle.model.specs.Rows.{listed, no_row, row_at};
+ghost use Rattle.model.specs.Rows.{no_row, row_at};
 ghost use Rattle.clauses.specs.Books.{rows_of};
 ghost use Rattle.clauses.specs.Literals.{flags_of, row_of};
 ghost use Rattle.clauses.specs.Proper;
@@ -13,14 +13,6 @@ use model::boxes::FlagBox;
 use model::strike::Strike;
 
 impl Clauses {
-    // The number of clauses; every one of them has a number.
-    fn len(&self) -> usize
-        ensures listed { result ≡ length (listed (rows_of self.now)) }
-        ensures few { result ≤ 512 }
-    {
-        self.lists.len()
-    }
-
     // The clause of a number.
     fn clause(&self, number: u16) -> Option<&[Literal<u8>]>
         ensures { MatchOption result (row_at (rows_of self.now) number ≡ no_row) (λ s. (row_at (rows_of self.now) number ≡ row_of s.now) × (0 < length s.now) × (some_twice (flags_of s.now) ≡ false)) }
@@ -34,8 +26,9 @@ impl Book for Clauses {
 
     ghost proper = { λ c. Proper.proper c };
 
+    // Every clause has a number.
     fn count(&self) -> u16 {
-        self.len() as u16
+        self.lists.len() as u16
     }
 
     fn touches(&self, row: u16, flag: usize) -> bool {

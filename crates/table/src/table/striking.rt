@@ -1,5 +1,5 @@
-ghost use Rattle.std.specs.Prelude.{◌≡◌, ◌≤◌, length, MatchOption};
-ghost use Rattle.model.specs.Rows.{elem, listed, no_row, row_at};
+ghost use Rattle.std.specs.Prelude.{◌≡◌, length, MatchOption};
+ghost use Rattle.model.specs.Rows.{elem, no_row, row_at};
 ghost use Rattle.model.specs.View.{at};
 ghost use Rattle.table.specs.Narrowing.{with_sets, Tells, Narrows};
 ghost use Rattle.table.specs.Relations.{flags_of, parts, each, row_of};
@@ -66,15 +66,6 @@ fn has_flag(relation: Relation<u8>, flag: usize) -> bool
 }
 
 impl Table {
-    // The number of rows; every one of them has a number.
-    #[tactic(auto, using(crate::proofs::Rows::listed_count))]
-    fn len(&self) -> usize
-        ensures listed { result ≡ length (listed (rows_of self.now)) }
-        ensures few { result ≤ 512 }
-    {
-        self.rows.len()
-    }
-
     // The row of a number.
     fn row(&self, number: u16) -> Option<&TableRow>
         ensures { MatchOption result (row_at (rows_of self.now) number ≡ no_row) (λ x. row_at (rows_of self.now) number ≡ row_of x.now.relation) }
@@ -88,8 +79,9 @@ impl Book for Table {
 
     ghost proper = { λ t. Proper.proper t };
 
+    // Every row has a number.
     fn count(&self) -> u16 {
-        self.len() as u16
+        self.rows.len() as u16
     }
 
     fn touches(&self, row: u16, flag: usize) -> bool {
