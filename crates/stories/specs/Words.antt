@@ -1,8 +1,10 @@
 -- The sentences that are said of a story.
-use Rattle.std.specs.Prelude.{ℕ, Bool, if◌then◌else◌, List, [], ◌∷◌, ◌++◌, Some, None, Option, codes, slice_get, option_map, unwrap_or}
+use Rattle.std.specs.Prelude.{ℕ, zero, suc, Bool, true, false, not, ◌&&◌, if◌then◌else◌, List, [], ◌∷◌, ◌++◌, codes, slice_get, option_map, unwrap_or}
 use Rattle.std.specs.Borrow.{Bor}
 use Rattle.std.specs.List.{flat_map}
 use Rattle.model.specs.declared.fact.Fact.{Fact}
+use Rattle.model.specs.Boxes.{Box}
+use Rattle.model.specs.Domains.{has}
 use Rattle.clauses.specs.declared.literal.Literal.{Literal}
 use Rattle.narrowing.specs.declared.Verdict.{Verdict}
 use Rattle.narrowing.specs.declared.Verdict.TheVariants.{Alive, Dead}
@@ -34,11 +36,6 @@ literals_text names first next (l ∷ ls) = first ++ name_of names l.flag ++ cod
 abbrev pub clause_text : List (Bor (List ℕ)) → List (Literal ℕ) → List ℕ
 clause_text names ls = codes "  Rule:" ++ literals_text names (codes " ") (codes ", or ") ls ++ codes "."
 
--- a contradiction is said so; what was struck out has no text here
-abbrev pub outcome_text : Verdict → Option (List ℕ)
-outcome_text Alive = None
-outcome_text Dead = Some (codes "  That cannot be: no set of flags fits it together with what was told before, so it is not kept." ++ 10 ∷ [])
-
 -- the title, the clauses and the rules, each on a line of its own
 abbrev pub story_text : Story → List ℕ
 story_text story =
@@ -46,3 +43,28 @@ story_text story =
     (story.title.now ++ 10 ∷ [])
     ++ (flat_map (λ clause. clause_text names clause.now ++ 10 ∷ []) story.clauses.now
     ++ flat_map (λ rule. rule_text names rule ++ 10 ∷ []) story.rules.now)
+
+-- whether a flag had a value and has it no more
+abbrev pub is_struck : Box → Box → ℕ → Bool → Bool
+is_struck before after flag value = has (before flag) value && not (has (after flag) value)
+
+abbrev pub struck_line : List (Bor (List ℕ)) → ℕ → Bool → List ℕ
+struck_line names flag value =
+    codes "  Struck out: " ++ name_of names flag ++ codes " cannot be " ++ yes_or_no value ++ codes ", so it is " ++ yes_or_no (not value) ++ codes "."
+
+-- then that is said on a line of its own
+abbrev pub struck_text : List (Bor (List ℕ)) → Box → Box → ℕ → Bool → List ℕ
+struck_text names before after flag value = if is_struck before after flag value then struck_line names flag value ++ 10 ∷ [] else []
+
+-- both values of a flag, and of the flags below a number
+abbrev pub struck_at : List (Bor (List ℕ)) → Box → Box → ℕ → List ℕ
+struck_at names before after flag = struck_text names before after flag false ++ struck_text names before after flag true
+
+unfoldable pub struck_below : List (Bor (List ℕ)) → Box → Box → ℕ → List ℕ
+struck_below names before after zero = []
+struck_below names before after (suc flag) = struck_below names before after flag ++ struck_at names before after flag
+
+-- what was struck out, or that there is a contradiction
+abbrev pub outcome_text : Verdict → List ℕ → List ℕ
+outcome_text Alive struck = struck
+outcome_text Dead struck = codes "  That cannot be: no set of flags fits it together with what was told before, so it is not kept." ++ 10 ∷ []

@@ -1,6 +1,8 @@
 // What is said of a story, in sentences.
-ghost use Rattle.std.specs.Prelude.{Some};
-ghost use Rattle.stories.specs.Words.{clause_text, outcome_text, rule_text, story_text, told_text};
+ghost use Rattle.std.specs.Prelude.{◌≡◌, Some};
+ghost use Rattle.std.specs.Fmt.{DisplaysOnOk};
+ghost use Rattle.model.specs.View.{at};
+ghost use Rattle.stories.specs.Words.{clause_text, is_struck, outcome_text, rule_text, story_text, struck_below, struck_line, struck_text, told_text};
 
 use crate::flags::{Flags, yes_or_no};
 use crate::story::Story;
@@ -100,8 +102,26 @@ impl fmt::Display for FactTold<'_> {
     }
 }
 
-// What a fact struck out, each value on a line of its own: those that the box had before and has no more. In a live box a flag that lost
-// one has the other.
+// A value that was struck out. In a live box the flag has the other.
+#[derive(Clone, Copy)]
+struct StruckValue<'a> {
+    flags: Flags<'a>,
+    flag: u8,
+    value: bool,
+}
+
+impl fmt::Display for StruckValue<'_> {
+    ghost output = { λ said. Some (struck_line said.flags.names.now said.flag said.value) };
+
+    fn fmt<W: fmt::Write>(&self, f: &mut fmt::Formatter<W>) -> fmt::Result {
+        let name = self.flags.name(self.flag as usize);
+        let gone = yes_or_no(self.value);
+        let left = yes_or_no(!self.value);
+        write!(f, "  Struck out: {name} cannot be {gone}, so it is {left}.")
+    }
+}
+
+// What a fact struck out, each value on a line of its own: those that the box had before and has no more.
 #[derive(Clone, Copy)]
 pub struct StruckOut<'a> {
     pub flags: Flags<'a>,
@@ -109,17 +129,38 @@ pub struct StruckOut<'a> {
     pub after: &'a FlagBox,
 }
 
+impl StruckOut<'_> {
+    // Whether the flag had the value and has it no more.
+    fn is_struck(&self, flag: u8, value: bool) -> bool
+        ensures { result ≡ is_struck (at self.now.before.now) (at self.now.after.now) flag value }
+    {
+        self.before.get(flag).contains(value) && !self.after.get(flag).contains(value)
+    }
+
+    // Says so.
+    fn write_value<W: fmt::Write>(
+        &self,
+        f: &mut fmt::Formatter<W>,
+        flag: u8,
+        value: bool,
+    ) -> fmt::Result
+        ensures { DisplaysOnOk W.write_str_gives f.old result (Some (struck_text self.now.flags.names.now (at self.now.before.now) (at self.now.after.now) flag value)) f.new }
+    {
+        if !self.is_struck(flag, value) {
+            return Ok(());
+        }
+        let flags = self.flags;
+        writeln!(f, "{}", StruckValue { flags, flag, value })
+    }
+}
+
 impl fmt::Display for StruckOut<'_> {
+    ghost output = { λ said. Some (struck_below said.flags.names.now (at said.before.now) (at said.after.now) 256) };
+
     fn fmt<W: fmt::Write>(&self, f: &mut fmt::Formatter<W>) -> fmt::Result {
         for flag in 0..=u8::MAX {
-            for value in [false, true] {
-                if self.before.get(flag).contains(value) && !self.after.get(flag).contains(value) {
-                    let name = self.flags.name(flag as usize);
-                    let gone = yes_or_no(value);
-                    let left = yes_or_no(!value);
-                    writeln!(f, "  Struck out: {name} cannot be {gone}, so it is {left}.")?;
-                }
-            }
+            self.write_value(f, flag, false)?;
+            self.write_value(f, flag, true)?;
         }
         Ok(())
     }
@@ -147,7 +188,8 @@ impl fmt::Display for StillOpen<'_> {
     }
 }
 
-const CONTRADICTION: &str = "  That cannot be: no set of flags fits it together with what was told before, so it is not kept.";
+const CONTRADICTION: &str =
+    "  That cannot be: no set of flags fits it together with what was told before, so it is not kept.";
 
 // What telling a fact came to: what it struck out, or that it cannot be.
 #[derive(Clone, Copy)]
@@ -157,7 +199,7 @@ pub struct Outcome<'a> {
 }
 
 impl fmt::Display for Outcome<'_> {
-    ghost output = { λ said. outcome_text said.verdict };
+    ghost output = { λ said. Some (outcome_text said.verdict (struck_below said.struck.flags.names.now (at said.struck.before.now) (at said.struck.after.now) 256)) };
 
     fn fmt<W: fmt::Write>(&self, f: &mut fmt::Formatter<W>) -> fmt::Result {
         match self.verdict {

@@ -8,6 +8,6 @@ use Rattle.stories.proofs.saying.ClauseInWordsDisplay.fmt.Given as goal
 -- the literals so far are written
 abbrev pub invariant-loop-literal : goal.invariant-loop-literal
 invariant-loop-literal g l =
-      shadow (Utf8 l.separator)
+    shadow (Utf8 l.separator)
     × (l.separator ≡ (if l.literal-index == 0 then codes " " else codes ", or "))
     × (IsPlainFormatter l.initial.f → HasWritten g.W.Write.write_str_gives l.initial.f (literals_text l.self.flags.names.now (codes " ") (codes ", or ") (take l.literal-index l.self.clause.now)) l.f)
