@@ -1,5 +1,4 @@
-// Books made of rules that are written out, for all tests.
-use clauses::clauses::Clauses;
+// What all tests use.
 use clauses::literal::Literal;
 use model::book::Book;
 use model::boxes::FlagBox;
@@ -8,7 +7,7 @@ use model::fact::Fact;
 use std::alloc::Global;
 use std::process::Abort;
 use std::test::Fail;
-use table::relation::Relation;
+use stories::books::table_of;
 use table::relation::Relation::{And, Not};
 use table::table::Table;
 
@@ -20,6 +19,7 @@ mod joining;
 mod lining;
 mod ring;
 mod striking;
+mod telling;
 
 fn literal(flag: usize, positive: bool) -> Literal<usize> {
     Literal { flag, positive }
@@ -38,25 +38,9 @@ fn fact(flag: u8, value: bool) -> Fact {
     Fact { flag, value }
 }
 
-fn table_of(heap: Global, relations: &[Relation<usize>]) -> Result<Table, Fail> {
-    let mut table = Table::new(heap)?;
-    for relation in relations {
-        table.add(*relation)?;
-    }
-    Ok(table)
-}
-
-fn clauses_of(heap: Global, clauses: &[&[Literal<usize>]]) -> Result<Clauses, Fail> {
-    let mut book = Clauses::new(heap)?;
-    for clause in clauses {
-        book.add(clause)?;
-    }
-    Ok(book)
-}
-
 // x and y = z, x and v = z, not y = v, with flags x y z v = 0 1 2 3
 fn four_flags(heap: Global) -> Result<Table, Fail> {
-    table_of(heap, &[And(0, 1, 2), And(0, 3, 2), Not(1, 3)])
+    Ok(table_of(heap, &[And(0, 1, 2), And(0, 3, 2), Not(1, 3)])?)
 }
 
 // The sets of the first four flags are these.

@@ -1,5 +1,5 @@
 // Narrowing over tables and joined books, under every scheduler, and against brute force.
-use super::{check_sets, clauses_of, fact, four_flags, no, table_of, yes};
+use super::{check_sets, fact, four_flags, no, yes};
 use clauses::clauses::Clauses;
 use index::Index;
 use indexed::{Indexed, narrow, narrow_to};
@@ -17,6 +17,7 @@ use schedulers::ring::Ring;
 use std::alloc::Global;
 use std::process::Abort;
 use std::test::Fail;
+use stories::books::{clauses_of, table_of};
 use table::relation::Relation::{And, Equal, Not, Or};
 use table::table::Table;
 

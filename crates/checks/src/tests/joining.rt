@@ -1,5 +1,5 @@
 // Joined books, at the edges of their parts, and their index against asking every row.
-use super::{check_touches, clauses_of, no, table_of, yes};
+use super::{check_touches, no, yes};
 use clauses::clauses::Clauses;
 use index::{Index, workable_count};
 use joined::Joined;
@@ -9,6 +9,7 @@ use model::domain::Domain;
 use model::strike::Strike;
 use std::process::Abort;
 use std::test::Fail;
+use stories::books::{clauses_of, table_of};
 use table::relation::Relation;
 use table::relation::Relation::{And, Equal, Not};
 use table::table::Table;

@@ -1,5 +1,5 @@
 // Strikes of single rows, and narrowing over a table and a ring.
-use super::{check_sets, four_flags, table_of};
+use super::{check_sets, four_flags};
 use model::book::Book;
 use model::boxes::FlagBox;
 use model::domain::Domain;
@@ -8,6 +8,7 @@ use model::strike::Strike;
 use narrowing::{Verdict, narrow};
 use schedulers::ring::Ring;
 use std::test::Fail;
+use stories::books::table_of;
 use table::decide::decide;
 use table::relation::Relation::{And, Equal, Not, Or};
 use table::table::Table;
