@@ -1,5 +1,5 @@
 -- The literals of a clause and what was struck out, written one after another.
-use Rattle.std.proofs.Common.{◌≡◌, ℕ, ◌+◌, Bool, true, add-one, ◌<◌, ◌==◌, if◌then◌else◌, List, [], ◌∷◌, ◌++◌, codes, length, get_or, take, sym, ap, ◌∙◌, arith}
+use Rattle.std.proofs.Common.{◌≡◌, ℕ, ◌+◌, Bool, true, not, ◌&&◌, add-one, ◌<◌, ◌==◌, if◌then◌else◌, List, [], ◌∷◌, ◌++◌, codes, length, get_or, take, sym, ap, ◌∙◌, arith}
 use Rattle.std.proofs.lemmas.Bool.{cond-true}
 use Rattle.std.proofs.lemmas.Bool.Decides.{nat_tests}
 use Rattle.std.specs.Borrow.{Bor}
@@ -7,7 +7,7 @@ use Rattle.std.proofs.lemmas.List.{take_more, length-take-le, append-nil}
 use mathlib.Core.List.{append_assoc}
 use Rattle.clauses.specs.declared.literal.Literal.{Literal}
 use Rattle.model.specs.Boxes.{Box}
-use Rattle.stories.specs.Words.{name_of, yes_or_no, literals_text, is_struck, struck_line, struck_text, struck_at, struck_below}
+use Rattle.stories.specs.Words.{name_of, yes_or_no, literals_text, is_struck, struck_line, struck_text, struck_at, struck_below, is_open, none_open, open_text, open_below}
 
 module _ (names : List (Bor (List ℕ))) where
   abbrev words : Literal ℕ → List ℕ
@@ -32,3 +32,15 @@ module _ (names : List (Bor (List ℕ))) (before after : Box) (flag : ℕ) where
   pub struck_more : struck_below names before after flag ++ struck_at names before after flag ≡ struck_below names before after (flag + 1)
   unfolding struck_below
   struck_more = rw add-one
+
+module _ (names : List (Bor (List ℕ))) (b : Box) (flag : ℕ) where
+  pub open_said : (none : Bool) → true ≡ is_open names b flag → (if none then codes " " else codes ", ") ++ name_of names flag ≡ open_text names b none flag
+  open_said none e = sym (cond-true (is_open names b flag) ((if none then codes " " else codes ", ") ++ name_of names flag) [] (sym e))
+
+  pub none_more : (none here : Bool) → none ≡ none_open names b flag → here ≡ is_open names b flag → (none && not here) ≡ none_open names b (flag + 1)
+  unfolding none_open
+  none_more none here n h = rw (n, h, add-one)
+
+  pub open_more : (none : Bool) → none ≡ none_open names b flag → open_below names b flag ++ open_text names b none flag ≡ open_below names b (flag + 1)
+  unfolding open_below
+  open_more none n = rw (n, add-one)

@@ -1,5 +1,5 @@
 -- The sentences that are said of a story.
-use Rattle.std.specs.Prelude.{ℕ, zero, suc, Bool, true, false, not, ◌&&◌, if◌then◌else◌, List, [], ◌∷◌, ◌++◌, codes, slice_get, option_map, unwrap_or}
+use Rattle.std.specs.Prelude.{ℕ, zero, suc, Bool, true, false, not, ◌&&◌, if◌then◌else◌, List, [], ◌∷◌, ◌++◌, length, nat_lt, codes, slice_get, option_map, unwrap_or}
 use Rattle.std.specs.Borrow.{Bor}
 use Rattle.std.specs.List.{flat_map}
 use Rattle.model.specs.declared.fact.Fact.{Fact}
@@ -63,6 +63,27 @@ struck_at names before after flag = struck_text names before after flag false ++
 unfoldable pub struck_below : List (Bor (List ℕ)) → Box → Box → ℕ → List ℕ
 struck_below names before after zero = []
 struck_below names before after (suc flag) = struck_below names before after flag ++ struck_at names before after flag
+
+-- whether a flag has a name and may still be either
+abbrev pub is_open : List (Bor (List ℕ)) → Box → ℕ → Bool
+is_open names b flag = nat_lt flag (length names) && (has (b flag) false && has (b flag) true)
+
+-- whether none of the flags below a number is open
+unfoldable pub none_open : List (Bor (List ℕ)) → Box → ℕ → Bool
+none_open names b zero = true
+none_open names b (suc flag) = none_open names b flag && not (is_open names b flag)
+
+-- the name of an open flag, after the others
+abbrev pub open_text : List (Bor (List ℕ)) → Box → Bool → ℕ → List ℕ
+open_text names b none flag = if is_open names b flag then (if none then codes " " else codes ", ") ++ name_of names flag else []
+
+-- those of the flags below a number
+unfoldable pub open_below : List (Bor (List ℕ)) → Box → ℕ → List ℕ
+open_below names b zero = []
+open_below names b (suc flag) = open_below names b flag ++ open_text names b (none_open names b flag) flag
+
+abbrev pub still_open_text : List (Bor (List ℕ)) → Box → List ℕ
+still_open_text names b = codes "  Still open:" ++ (open_below names b 256 ++ (if none_open names b 256 then codes " nothing." else codes "."))
 
 -- what was struck out, or that there is a contradiction
 abbrev pub outcome_text : Verdict → List ℕ → List ℕ

@@ -1,14 +1,13 @@
 // What is said of a story, in sentences.
-ghost use Rattle.std.specs.Prelude.{◌≡◌, Some};
+ghost use Rattle.std.specs.Prelude.{◌≡◌, if◌then◌else◌, codes, Some};
 ghost use Rattle.std.specs.Fmt.{DisplaysOnOk};
 ghost use Rattle.model.specs.View.{at};
-ghost use Rattle.stories.specs.Words.{clause_text, is_struck, outcome_text, rule_text, story_text, struck_below, struck_line, struck_text, told_text};
+ghost use Rattle.stories.specs.Words.{clause_text, is_open, is_struck, open_text, outcome_text, rule_text, still_open_text, story_text, struck_below, struck_line, struck_text, told_text};
 
 use crate::flags::{Flags, yes_or_no};
 use crate::story::Story;
 use clauses::literal::Literal;
 use model::boxes::FlagBox;
-use model::domain::Domain;
 use model::fact::Fact;
 use narrowing::Verdict;
 use std::fmt;
@@ -173,18 +172,56 @@ pub struct StillOpen<'a> {
     pub b: &'a FlagBox,
 }
 
+impl StillOpen<'_> {
+    // Whether the flag has a name and may still be either.
+    fn is_open(&self, flag: u8) -> bool
+        ensures { result ≡ is_open self.now.flags.names.now (at self.now.b.now) flag }
+    {
+        let set = self.b.get(flag);
+        (flag as usize) < self.flags.names.len() && set.contains(false) && set.contains(true)
+    }
+
+    // Then writes its name, where none was written yet or after the others.
+    fn write_name<W: fmt::Write>(
+        &self,
+        f: &mut fmt::Formatter<W>,
+        flag: u8,
+        none: bool,
+    ) -> fmt::Result
+        ensures { DisplaysOnOk W.write_str_gives f.old result (Some (open_text self.now.flags.names.now (at self.now.b.now) none flag)) f.new }
+    {
+        if !self.is_open(flag) {
+            return Ok(());
+        }
+        let separator = before_name(none);
+        let name = self.flags.name(flag as usize);
+        write!(f, "{separator}{name}")
+    }
+}
+
+fn before_name(none: bool) -> &'static str
+    ensures { result.now ≡ (if none then codes " " else codes ", ") }
+{
+    if none { " " } else { ", " }
+}
+
+fn after_names(none: bool) -> &'static str
+    ensures { result.now ≡ (if none then codes " nothing." else codes ".") }
+{
+    if none { " nothing." } else { "." }
+}
+
 impl fmt::Display for StillOpen<'_> {
+    ghost output = { λ said. Some (still_open_text said.flags.names.now (at said.b.now)) };
+
     fn fmt<W: fmt::Write>(&self, f: &mut fmt::Formatter<W>) -> fmt::Result {
         f.write_str("  Still open:")?;
         let mut none = true;
-        for (flag, name) in (0..=u8::MAX).zip(self.flags.names) {
-            if self.b.get(flag) == Domain::Open {
-                let separator = if none { " " } else { ", " };
-                write!(f, "{separator}{name}")?;
-                none = false;
-            }
+        for flag in 0..=u8::MAX {
+            self.write_name(f, flag, none)?;
+            none &= !self.is_open(flag);
         }
-        f.write_str(if none { " nothing." } else { "." })
+        f.write_str(after_names(none))
     }
 }
 
