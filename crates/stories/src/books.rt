@@ -1,9 +1,9 @@
 // The books that the rules and the clauses of a story mean.
-ghost use Rattle.std.specs.Prelude.{◌≡◌, map, IfOk, IfErr};
+ghost use Rattle.std.specs.Prelude.{◌≡◌, map, Some, IfOk, IfErr};
 ghost use Rattle.clauses.specs.Books.{clauses_of};
 ghost use Rattle.table.specs.Relations.{row_of};
 ghost use Rattle.table.specs.Tables.{rows_of};
-ghost use Rattle.stories.specs.Refusals.{RulesRefused, ClausesRefused};
+ghost use Rattle.stories.specs.Refusals.{RulesRefused, ClausesRefused, book_said};
 ghost use Rattle.stories.specs.declared.books.BookRefusal.TheVariants.{NotMade, NotAdded};
 
 use clauses::clauses::Clauses;
@@ -40,6 +40,8 @@ impl From<AddRefusal> for BookRefusal {
 }
 
 impl fmt::Display for BookRefusal {
+    ghost output = { λ e. Some (book_said e) };
+
     fn fmt<W: fmt::Write>(&self, f: &mut fmt::Formatter<W>) -> fmt::Result {
         match self {
             BookRefusal::NotMade(reason) => write!(f, "{reason}"),
