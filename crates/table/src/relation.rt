@@ -1,5 +1,12 @@
 ghost use Rattle.std.specs.Prelude.{◌≡◌, true, false, MatchBool, MatchResult};
-ghost use Rattle.table.specs.Relations.{first, second, third, Placewise, AtSomePlace, AtEachPlace};
+ghost use Rattle.model.specs.Rows.{elem};
+ghost use Rattle.model.specs.View.{at};
+ghost use Rattle.table.specs.Refusals.{in_bytes};
+ghost use Rattle.table.specs.Relations.{first, second, third, each, flags_of, Placewise, AtSomePlace, AtEachPlace};
+
+use model::boxes::FlagBox;
+use model::domain::Domain;
+use model::refusal::AddRefusal;
 
 // A row of a table is one of four kinds: x = y, not x = y, x and y = z, x or y = z. `Relation<usize>` is a row as it is handed in,
 // `Relation<u8>` one that is stored, and `Relation<Domain>` holds the sets of a row's flags. A row of two flags has no third.
@@ -11,6 +18,7 @@ pub enum Relation<T> {
     Or(T, T, T),
 }
 
+// Goes through the places of a relation once, for all that asks something of each of them.
 impl<T: Copy> Relation<T> {
     // What stands at its first, its second and its third place.
     pub(crate) fn places(self) -> (T, T, Option<T>)
@@ -23,7 +31,7 @@ impl<T: Copy> Relation<T> {
     }
 
     // The relation of what the function gives at each place.
-    pub(crate) fn map<U, F: Fn(T) -> U>(self, f: F) -> Relation<U>
+    fn map<U, F: Fn(T) -> U>(self, f: F) -> Relation<U>
         requires { F.IsAlwaysCallable f }
         ensures { Placewise (F.post f) self result }
     {
@@ -36,10 +44,7 @@ impl<T: Copy> Relation<T> {
     }
 
     // The same for a function that may fail; if it does at some place, the answer is its error.
-    pub(crate) fn try_map<U: Drop, E, F: Fn(T) -> Result<U, E>>(
-        self,
-        f: F,
-    ) -> Result<Relation<U>, E>
+    fn try_map<U: Drop, E, F: Fn(T) -> Result<U, E>>(self, f: F) -> Result<Relation<U>, E>
         requires { F.IsAlwaysCallable f }
         ensures { MatchResult result (Placewise (λ x y. F.post f x (Ok y)) self) (λ e. AtSomePlace (λ x. F.post f x (Err e)) self) }
     {
@@ -52,11 +57,38 @@ impl<T: Copy> Relation<T> {
     }
 
     // Whether some place passes the test.
-    pub(crate) fn any<F: Fn(T) -> bool>(self, test: F) -> bool
+    fn any<F: Fn(T) -> bool>(self, test: F) -> bool
         requires { F.IsAlwaysCallable test }
         ensures { MatchBool result (AtSomePlace (λ x. F.post test x true) self) (AtEachPlace (λ x. F.post test x false) self) }
     {
         let (x, y, z) = self.places();
         test(x) || test(y) || z.is_some_and(test)
+    }
+}
+
+impl Relation<u8> {
+    // The sets of its flags in a box.
+    pub(crate) fn sets_in(self, b: &FlagBox) -> Relation<Domain>
+        ensures { result ≡ each (at b.now) self }
+    {
+        self.map(|flag| b.get(flag))
+    }
+
+    // Whether the flag is one of its flags.
+    pub(crate) fn has(self, flag: usize) -> bool
+        ensures { result ≡ elem flag (flags_of self) }
+    {
+        self.any(|place| usize::from(place) == flag)
+    }
+}
+
+// A relation with its flags as bytes, if none is above 255.
+impl TryFrom<Relation<usize>> for Relation<u8> {
+    type Error = AddRefusal;
+
+    ghost try_from_gives = { λ relation r. r ≡ in_bytes relation };
+
+    fn try_from(relation: Relation<usize>) -> Result<Relation<u8>, AddRefusal> {
+        relation.try_map(u8::try_from).map_err(|_| AddRefusal::Flag)
     }
 }

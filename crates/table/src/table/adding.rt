@@ -1,7 +1,7 @@
 ghost use Rattle.std.specs.Prelude.{◌≡◌, [], length, Some, None, MatchResult};
 ghost use Rattle.model.specs.declared.refusal.MakeRefusal.TheVariants.{Memory};
 ghost use Rattle.model.specs.Refusals.{some_twice};
-ghost use Rattle.table.specs.Refusals.{in_bytes, refusal};
+ghost use Rattle.table.specs.Refusals.{refusal};
 ghost use Rattle.table.specs.Relations.{flags_of};
 ghost use Rattle.table.specs.Tables.{rows_of, Added};
 
@@ -41,17 +41,6 @@ fn row_for(relation: Relation<usize>, count: usize) -> Result<TableRow, AddRefus
         return Err(AddRefusal::Full);
     }
     Ok(TableRow { relation })
-}
-
-// A relation with its flags as bytes, if none is above 255.
-impl TryFrom<Relation<usize>> for Relation<u8> {
-    type Error = AddRefusal;
-
-    ghost try_from_gives = { λ relation r. r ≡ in_bytes relation };
-
-    fn try_from(relation: Relation<usize>) -> Result<Relation<u8>, AddRefusal> {
-        relation.try_map(u8::try_from).map_err(|_| AddRefusal::Flag)
-    }
 }
 
 // Whether some flag stands there twice.

@@ -1,8 +1,8 @@
 ghost use Rattle.std.specs.Prelude.{◌≡◌, length, MatchOption};
-ghost use Rattle.model.specs.Rows.{elem, no_row, row_at};
+ghost use Rattle.model.specs.Rows.{no_row, row_at};
 ghost use Rattle.model.specs.View.{at};
 ghost use Rattle.table.specs.Narrowing.{with_sets, Tells, Narrows};
-ghost use Rattle.table.specs.Relations.{flags_of, parts, each, row_of};
+ghost use Rattle.table.specs.Relations.{parts, row_of};
 ghost use Rattle.table.specs.Tables.{rows_of};
 ghost use Rattle.table.specs.Proper;
 
@@ -13,13 +13,6 @@ use model::book::Book;
 use model::boxes::FlagBox;
 use model::domain::Domain;
 use model::strike::Strike;
-
-// The sets of the flags.
-fn sets_of(relation: Relation<u8>, b: &FlagBox) -> Relation<Domain>
-    ensures { result ≡ each (at b.now) relation }
-{
-    relation.map(|flag| b.get(flag))
-}
 
 // Gives each flag the set at its place.
 fn put_sets(relation: Relation<u8>, sets: Relation<Domain>, b: &mut FlagBox)
@@ -52,17 +45,10 @@ fn verdict(before: Relation<Domain>, after: Relation<Domain>) -> Strike
 fn narrow(relation: Relation<u8>, b: &mut FlagBox) -> Strike
     ensures { Narrows relation (at b.old) (at b.new) result }
 {
-    let before = sets_of(relation, b);
+    let before = relation.sets_in(b);
     let after = decide(before);
     put_sets(relation, after, b);
     verdict(before, after)
-}
-
-// Whether the flag is one of the relation's.
-fn has_flag(relation: Relation<u8>, flag: usize) -> bool
-    ensures { result ≡ elem flag (flags_of relation) }
-{
-    relation.any(|place| usize::from(place) == flag)
 }
 
 impl Table {
@@ -85,7 +71,7 @@ impl Book for Table {
     }
 
     fn touches(&self, row: u16, flag: usize) -> bool {
-        self.row(row).is_some_and(|r| has_flag(r.relation, flag))
+        self.row(row).is_some_and(|r| r.relation.has(flag))
     }
 
     fn strike(&self, row: u16, b: &mut FlagBox) -> Strike {
