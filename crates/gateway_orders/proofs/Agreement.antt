@@ -1,28 +1,25 @@
 -- Why all orders come to the same box.
-use Rattle.std.proofs.Common.{◌≡◌, ℕ, ◌+◌, ◌-◌, ◌<◌, suc, MatchBool, ◌∷◌, length, Option, Bool, true, false, List, sym, refl, ap, ◌∙◌, subst, ⊎_elim, not, arith, rules}
+use Rattle.std.proofs.Common.{◌≡◌, ℕ, ◌<◌, Bool, true, false, not, List, length, get_or, sym, ap, ◌∙◌, subst, ⊎_elim, arith, rules}
 use mathlib.Core.Path.{fun_ext}
-use Rattle.std.proofs.lemmas.Iterator.{YieldsList}
-use Rattle.std.proofs.lemmas.Iterator.Consumers.{YieldsList-from_shown}
-use Rattle.std.specs.Range.{range_inclusive_start, range_inclusive_left, range_inclusive_steps, range_inclusive_exhausted, range_inclusive_len, range_inclusive_end}
-use Rattle.std.specs.declared.ops.RangeInclusive.{RangeInclusive}
-use Rattle.std.specs.List.{range_with_len, AllWithin}
-use Rattle.std.proofs.lemmas.List.FromFn.{length-range_with_len, get_or-range_with_len}
-use denote.Enum.Bare.{sameb, same_true}
 use Rattle.std.proofs.lemmas.Bool.{cases_eq, cases_lt, not-false}
+use Rattle.std.proofs.lemmas.List.{ext_get_or}
+use lib.Pointwise.{pointwise, pointwise_decides}
+use denote.Enum.Bare.{sameb, same_true, true_same}
 use Rattle.model.specs.contracts.domain.Domain.{the_type}
-use Rattle.model.specs.declared.domain.Domain.{Domain}
 use Rattle.model.specs.Rows.{Row}
 use Rattle.model.specs.Boxes as boxes
 use Rattle.model.specs.Boxes.{Box}
 use Rattle.model.specs.Facts.{Facts, LargestUnder, told, facts_box}
 use Rattle.model.specs.View.{at}
 use Rattle.model.specs.declared.boxes.FlagBox.{FlagBox}
-use Rattle.model.proofs.Holding.{past_open}
+use Rattle.model.specs.declared.domain.Domain.{Domain}
+use Rattle.model.specs.declared.domain.Domain.TheVariants.{Open}
+use Rattle.model.proofs.Holding.{of_list, past_open, read_at}
 use Rattle.model.proofs.Stand.{box_laws}
 use Rattle.narrowing.specs.declared.Verdict.{Verdict}
 use Rattle.narrowing.specs.declared.Verdict.TheVariants.{Alive, Dead}
-use Rattle.gateway_orders.specs.Orders.{Agree, ToldAll}
 use Rattle.stories.specs.Telling.{Tells}
+use Rattle.gateway_orders.specs.Orders.{ToldAll}
 use Rattle.gateway_orders.specs.Telling.{Told}
 use Rattle.gateway_orders.specs.declared.orders.Boxes.{Boxes}
 
@@ -58,51 +55,24 @@ told_all rows before after f v x y z r q s held l a g =
       ),
     )
 
--- what a range up to its last number gives
-abbrev steps : RangeInclusive ℕ → Option ℕ → RangeInclusive ℕ → Type 0
-steps = range_inclusive_steps (λ a b. b - a) (λ a b. b ≡ a + 1)
+-- what `==` answers at two boxes
+abbrev equal : FlagBox → FlagBox → Bool
+equal a b = pointwise (sameb the_type) a.sets b.sets
 
-abbrev left : RangeInclusive ℕ → ℕ
-left s = range_inclusive_left (λ a b. b - a) s
+decides : (x y : Domain) → (sameb the_type x y ≡ true → x ≡ y) × (x ≡ y → sameb the_type x y ≡ true)
+decides x y = (same_true the_type (search rules) x y, true_same the_type x y)
 
-counted : (a n b m x : ℕ) → n ≡ suc m → x ≡ a → range_with_len (a + 1) m ≡ range_with_len b m → range_with_len a n ≡ x ∷ range_with_len b m
-counted a n b m x e f g = ap (range_with_len a) e ∙ ap {B = List ℕ} (λ w. w ∷ range_with_len (a + 1) m) (sym f) ∙ ap {B = List ℕ} (λ w. x ∷ w) g
+pub equal_same : (a b : FlagBox) → equal a b ≡ true → at a ≡ at b
+unfolding at
+equal_same a b e = ap of_list ((pointwise_decides decides a.sets b.sets).0 e)
 
--- where the last number came, none is left
-rest : (a : ℕ) (t : RangeInclusive ℕ) (spent : Bool) → range_inclusive_exhausted t ≡ spent → (range_inclusive_exhausted t ≡ false → range_inclusive_start t ≡ a + 1) → range_with_len (a + 1) (left t) ≡ range_with_len (range_inclusive_start t) (left t)
-rest a t true e p =
-    let none : left t ≡ 0 = ap (range_inclusive_len (λ a b. b - a) (range_inclusive_start t) (range_inclusive_end t)) e in
-    ap (range_with_len (a + 1)) none ∙ sym (ap (range_with_len (range_inclusive_start t)) none)
-rest a t false e p = ap (λ b. range_with_len b (left t)) (sym (p e))
-
-pub counts : (s : RangeInclusive ℕ) → YieldsList steps (λ x. x) s (range_with_len (range_inclusive_start s) (left s))
-counts = YieldsList-from_shown steps (λ x. x) (λ s. range_with_len (range_inclusive_start s) (left s))
-    (λ s t p. ap (λ n. length (range_with_len (range_inclusive_start s) n)) p.1.0)
-    (λ s x t p. counted (range_inclusive_start s) (left s) (range_inclusive_start t) (left t) x (omega (arith, p.1.1)) p.1.0 (rest (range_inclusive_start s) t (range_inclusive_exhausted t) refl p.1.2))
-
--- boxes that are the same at each of the flags are the same
-pub same_box : (a b : FlagBox) → ((f : ℕ) → f < 256 → at a f ≡ at b f) → at a ≡ at b
-same_box a b same = fun_ext (λ f. ⊎_elim (same f) (λ past. past_open a f past ∙ sym (past_open b f past)) (cases_lt f 256))
-
-abbrev pub Same : Boxes → ℕ → Type 0
-Same b f = (at b.ring f ≡ at b.queue f) × (at b.ring f ≡ at b.lanes f)
-
-module _ (b : Boxes) (s : RangeInclusive ℕ) (start : range_inclusive_start s ≡ 0) (end : range_inclusive_end s ≡ 255) (fresh : range_inclusive_exhausted s ≡ false) where
-  abbrev numbers : List ℕ
-  numbers = range_with_len (range_inclusive_start s) (left s)
-
-  whole : left s ≡ 256
-  whole =
-      let l = ap (range_inclusive_len (λ a b. b - a) (range_inclusive_start s) (range_inclusive_end s)) fresh in omega arith
-
-  pub all_same : (No : Type 0) (r : Bool) → MatchBool r (AllWithin (Same b) numbers 0 (length numbers)) No → r ≡ true → Agree b
-  all_same No r m t =
-      let all = subst (λ r. MatchBool r (AllWithin (Same b) numbers 0 (length numbers)) No) t m in
-      let w = whole in
-      let same : (f : ℕ) → f < 256 → Same b f = λ f l.
-      let here = get_or-range_with_len (range_inclusive_start s) (left s) f 0 (omega arith) in
-      subst (Same b) (omega arith) (all f 0 (omega arith) (omega (arith, length-range_with_len (range_inclusive_start s) (left s)))) in
-      (same_box b.ring b.queue (λ f l. (same f l).0), same_box b.ring b.lanes (λ f l. (same f l).1))
+pub same_equal : (a b : FlagBox) → at a ≡ at b → equal a b ≡ true
+unfolding at
+same_equal a b e =
+    let same : (f : ℕ) → f < length a.sets → get_or a.sets f Open ≡ get_or b.sets f Open = λ f l.
+    let here : f < 256 = let w = a.whole in omega arith in
+    read_at a.sets f Open here a.whole ∙ ap (λ c. c f) e ∙ sym (read_at b.sets f Open here b.whole) in
+    (pointwise_decides decides a.sets b.sets).1 (ext_get_or Open a.sets b.sets (a.whole ∙ sym b.whole) same)
 
 -- boxes that are the same at every flag up to the last one are the same
 pub same_all : (a b : FlagBox) (n : ℕ) (x y : Domain) → ((f : ℕ) → f < n → at a f ≡ at b f) → x ≡ at a n → y ≡ at b n → false ≡ not (sameb the_type x y) → n ≡ 255 → at a ≡ at b

@@ -76,9 +76,6 @@ impl Boxes {
         ensures yes { result ≡ true → Agree self.now }
         ensures no { result ≡ false → Agree self.now → ⊥ }
     {
-        (0..=u8::MAX).all(|flag| {
-            let set = self.ring.get(flag);
-            set == self.queue.get(flag) && set == self.lanes.get(flag)
-        })
+        self.ring == self.queue && self.ring == self.lanes
     }
 }

@@ -3,7 +3,6 @@ ghost use Rattle.model.specs.Boxes.{Dead, Alive, open_box, with_set};
 ghost use Rattle.model.specs.Domains.{cut_set};
 ghost use Rattle.model.specs.Facts.{cut};
 ghost use Rattle.model.specs.Strikes.{CutSays};
-ghost use Rattle.model.specs.View.{at};
 
 use crate::domain::Domain;
 use crate::fact::Fact;
@@ -13,6 +12,7 @@ use crate::strike::Strike;
 #[derive(Clone, Copy, PartialEq, Eq, Debug)]
 pub struct FlagBox {
     sets: [Domain; 256],
+    ghost whole: { length sets ≡ 256 },
 }
 
 // The layout: a list of 256 sets, that of flag 0 first. These four, and the proofs of what calls them, are all that knows it.
@@ -42,6 +42,8 @@ fn some_empty(sets: &[Domain; 256]) -> bool
 }
 
 impl FlagBox {
+    ghost use Rattle.model.specs.View.{at};
+
     // The box in which every flag is open.
     pub fn all_open() -> FlagBox
         ensures { at result ≡ open_box }

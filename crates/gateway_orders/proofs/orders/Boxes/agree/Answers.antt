@@ -1,10 +1,15 @@
-use Rattle.std.proofs.Common.{rules, tests}
-use Rattle.std.specs.Bool.{⊤}
-use Rattle.std.proofs.lemmas.Iterator.{cases_from_all}
-use Rattle.gateway_orders.proofs.Agreement.{counts, Same, all_same}
+use Rattle.std.proofs.Common.{sym, ◌∙◌, true≢false}
+use Rattle.gateway_orders.proofs.Agreement.{equal_same, same_equal}
 use Rattle.gateway_orders.proofs.orders.Boxes.agree.Goals as goal
 
-pub returns-clause-yes : goal.returns-clause-yes
-returns-clause-yes c =
-    let flags = c.new.ensures in
-    all_same c.args.self.now c.new.result flags.start flags.end flags.exhausted _ _ (cases_from_all _ _ _ (Same c.args.self.now) (λ _. ⊤) c.all.ensures.ran (counts _) (λ x q k. search (rules, tests)) (λ x q k. tt))
+pub returns-then-eq-clause-yes : goal.returns-then-eq-clause-yes
+returns-then-eq-clause-yes c = let b = c.args.self.now in
+    λ yes. (equal_same b.ring b.queue (sym c.if-eq.ensures), equal_same b.ring b.lanes (sym c.eq-then-eq.ensures ∙ yes))
+
+pub returns-then-eq-clause-no : goal.returns-then-eq-clause-no
+returns-then-eq-clause-no c = let b = c.args.self.now in
+    λ no same. true≢false (sym (same_equal b.ring b.lanes same.1) ∙ (sym c.eq-then-eq.ensures ∙ no))
+
+pub returns-else-eq-clause-no : goal.returns-else-eq-clause-no
+returns-else-eq-clause-no c = let b = c.args.self.now in
+    λ no same. true≢false (sym (same_equal b.ring b.queue same.0) ∙ sym c.if-eq.ensures)
