@@ -4,7 +4,7 @@
 use schedulers::ring::Ring;
 use stories::books::table_of;
 use stories::examples::{FOUR, FOUR_TOLD_OTHERWISE, GATEWAY};
-use stories::saying::{FactTold, Outcome, StillOpen, StruckOut};
+use stories::saying::{FactTold, NOTHING_FITS, NOTHING_TOLD, Outcome, StillOpen, StruckOut};
 use stories::story::Story;
 use telling::{start, tell};
 
@@ -15,12 +15,12 @@ fn tell_story(rt: &HostRuntime, story: Story<'_>) -> anyhow::Result<()> {
     let table = table_of(rt.alloc(), story.rules)?;
     let flags = story.flags;
     let mut ring = Ring::new();
-    print!(rt; "{story}")?;
+    rt.print(story)?;
     let Some(mut b) = start(&table, &mut ring) else {
-        rt.println("The rules contradict one another: nothing fits them.")?;
+        rt.println(NOTHING_FITS)?;
         return Ok(());
     };
-    rt.println("Nothing is told yet.")?;
+    rt.println(NOTHING_TOLD)?;
     rt.println(StillOpen { flags, b: &b })?;
     for fact in story.facts {
         let fact = *fact;

@@ -10,7 +10,7 @@ use model::book::Book;
 use orders::{Boxes, Orders, orders_with, start_all, tell_all};
 use stories::books::{clauses_of, table_of};
 use stories::examples::{FOUR, FOUR_TOLD_OTHERWISE, GATEWAY, GATEWAY_WITH_CLAUSES};
-use stories::saying::{FactTold, Outcome, StillOpen, StruckOut};
+use stories::saying::{FactTold, NOTHING_FITS, NOTHING_TOLD, Outcome, StillOpen, StruckOut};
 use stories::story::Story;
 
 mod orders;
@@ -33,13 +33,11 @@ fn tell_story(rt: &HostRuntime, story: Story<'_>) -> anyhow::Result<()> {
     let mut orders = orders_with(first.count());
     let second = table_of(rt.alloc(), story.rules)?;
     let book = Indexed::new(rt.alloc(), Joined { first, second })?;
-    match start_all(&book, &mut orders) {
-        Some(boxes) => tell_facts(rt, story, &book, &mut orders, boxes),
-        None => {
-            rt.println("The rules contradict one another: nothing fits them.")?;
-            Ok(())
-        }
-    }
+    let Some(boxes) = start_all(&book, &mut orders) else {
+        rt.println(NOTHING_FITS)?;
+        return Ok(());
+    };
+    tell_facts(rt, story, &book, &mut orders, boxes)
 }
 
 // Tells the facts of a story from these boxes, and says what each comes to.
@@ -51,7 +49,7 @@ fn tell_facts<B: Book>(
     mut boxes: Boxes,
 ) -> anyhow::Result<()> {
     let flags = story.flags;
-    rt.println("Nothing is told yet.")?;
+    rt.println(NOTHING_TOLD)?;
     rt.println(StillOpen {
         flags,
         b: &boxes.ring,

@@ -45,11 +45,11 @@ pub(crate) fn flags_by_row<B: Book>(heap: Global, book: &B) -> Result<Lists<u8>,
     ensures { IfOk result (λ s. lists_of s ≡ map (λ k. those (on (row_at (B.Book.rows book.now) k)) 256) (range_with_len 0 (length (workable (B.Book.rows book.now))))) }
 {
     let count = workable_count(book);
-    let mut lists = Lists::new(heap, count as usize, 0)?;
+    let mut lists = Lists::new(heap, usize::from(count), 0)?;
     for row in 0..count {
         close_with(
             &mut lists,
-            (0..=u8::MAX).filter(|flag| book.touches(row, *flag as usize)),
+            (0..=u8::MAX).filter(|flag| book.touches(row, usize::from(*flag))),
         )?;
     }
     Ok(lists)

@@ -40,14 +40,14 @@ impl Index {
     pub fn rows_with(&self, flag: u8) -> &[u16]
         ensures { result.now ≡ rows_with self.now flag }
     {
-        list_at(&self.rows, flag as usize)
+        list_at(&self.rows, usize::from(flag))
     }
 
     // The flags that are listed at a row.
     pub fn flags_in(&self, row: u16) -> &[u8]
         ensures { result.now ≡ flags_in self.now row }
     {
-        list_at(&self.flags, row as usize)
+        list_at(&self.flags, usize::from(row))
     }
 }
 

@@ -1,4 +1,4 @@
-// Narrowing: striking rows until every value that is left has support from every row.
+// Narrowing by the index of a book: striking rows until every value that is left has support, and waking only those that may have lost it.
 #![tactic(auto)]
 
 ghost use Rattle.model.specs.Facts.{cut};

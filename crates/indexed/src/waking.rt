@@ -12,7 +12,7 @@ use model::scheduler::Scheduler;
 fn left_out(but: Option<u16>, row: u16) -> bool
     ensures { result ≡ left_out but row }
 {
-    but.is_some_and(|other| row == other)
+    but == Some(row)
 }
 
 // Wakes a row, unless it is the one that is left out.

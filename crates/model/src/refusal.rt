@@ -1,4 +1,4 @@
-// Refusals and their numbers.
+// Refusals, their numbers and their words.
 ghost use Rattle.std.specs.Prelude.{◌≡◌, ℕ, Some};
 ghost use Rattle.model.specs.Numbers.{add_number, make_number};
 ghost use Rattle.model.specs.Words.{add_reason, add_said, make_said};

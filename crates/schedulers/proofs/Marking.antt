@@ -8,8 +8,8 @@ use Rattle.std.proofs.Math.Bool.{and_comm, and_assoc}
 use Rattle.std.proofs.lemmas.Grind.{common_steps}
 use Rattle.std.proofs.lemmas.Bool.Decides.{nat_tests}
 use Rattle.model.specs.Waiting.{Takes}
-use Rattle.schedulers.specs.Bounds.{below_1024, bounded_below}
-use Rattle.schedulers.specs.Marks.{marked, tally}
+use Rattle.schedulers.specs.Bounds.{bounded_below}
+use Rattle.schedulers.specs.Marks.{below_1024, marked, tally}
 
 -- where no mark was set, none is
 pub none_marked : (n k : ℕ) → marked (replicate n false) k ≡ false

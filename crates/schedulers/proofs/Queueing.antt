@@ -11,7 +11,7 @@ use Rattle.model.specs.Rows.{elem}
 use Rattle.model.specs.Waiting.{Wakes, Takes}
 use Rattle.schedulers.specs.Marks.{marked}
 use Rattle.schedulers.specs.Rings.{after}
-use Rattle.schedulers.specs.Queues.{line_of, in_line, joins, serves, Sound}
+use Rattle.schedulers.specs.Queues.{IsLine, line_of, in_line, joins, serves, Sound}
 use Rattle.schedulers.proofs.Marking.{marked_within, marked_set, marked_unset, tally_more, tally_fewer, tally_room}
 
 -- where a line serves a number, it stands at the start, and the rest begins at the next place
@@ -133,3 +133,7 @@ module _ (order : List ℕ) (start len : ℕ) (waiting : List Bool) (q : Sound o
 
     pub taken : Takes (in_line (line_of order start len)) (in_line (line_of order (after start) (len - 1))) (Some row)
     taken = subst (λ (line : List ℕ). Takes (in_line line) (in_line (line_of order (after start) (len - 1))) (Some row)) (sym whole) (takes_served _ _ first_low parts.0)
+
+-- what a queue holds is a line
+pub sound_line : (order : List ℕ) (start len : ℕ) (waiting : List Bool) → Sound order start len waiting → IsLine (line_of order start len)
+sound_line order start len waiting q = record { once = q.once; low = λ k e. marked_within waiting 1024 k q.marks (q.members k ∙ e) }

@@ -1,11 +1,8 @@
 -- Why the numbers that a scheduler holds are below 1,024.
-use Rattle.std.specs.Prelude.{◌≡◌, ℕ, ◌<◌, Bool, true, false, cond, ◌&&◌, nat_lt}
+use Rattle.std.specs.Prelude.{◌≡◌, ℕ, ◌<◌, Bool, true, false, cond, nat_lt}
 use Rattle.std.proofs.lemmas.Bool.{ltb-true, and_parts}
 use Rattle.model.specs.Waiting.{Bounded}
-
--- of some numbers, those that a scheduler can hold
-abbrev pub below_1024 : (ℕ → Bool) → ℕ → Bool
-below_1024 some k = nat_lt k 1024 && some k
+use Rattle.schedulers.specs.Marks.{below_1024}
 
 pub bounded_below : (some : ℕ → Bool) → Bounded (below_1024 some)
 bounded_below some k w = ltb-true k 1024 (and_parts (nat_lt k 1024) (some k) w).0

@@ -2,8 +2,7 @@
 use Rattle.std.specs.Prelude.{◌≡◌, ℕ, zero, suc, ◌<◌, ◌≤◌, Bool, true, false, cond, not, ◌&&◌, List, [], ◌∷◌, ◌++◌, length, Some, None, Option, nat_lt, slice_index}
 use Rattle.model.specs.Refusals.{some_twice}
 use Rattle.model.specs.Rows.{elem}
-use Rattle.schedulers.specs.Bounds.{below_1024}
-use Rattle.schedulers.specs.Marks.{marked, tally}
+use Rattle.schedulers.specs.Marks.{below_1024, marked, tally}
 use Rattle.schedulers.specs.Rings.{after}
 
 -- the `count` numbers that stand in a circle from the place `start` on

@@ -1,8 +1,7 @@
 -- The order of a ring: the first waiting number from a place on, going round at 1,024.
 use Rattle.std.specs.Prelude.{◌≡◌, ℕ, zero, suc, ◌+◌, ◌%◌, ◌<◌, ◌≤◌, Bool, true, false, cond, ◌⊎◌, List, length, Some, None, Option}
 use Rattle.model.specs.Waiting.{Bounded, NoneWaits}
-use Rattle.schedulers.specs.Bounds.{below_1024}
-use Rattle.schedulers.specs.Marks.{marked}
+use Rattle.schedulers.specs.Marks.{below_1024, marked}
 
 -- a ring: a mark for each number that waits, and where the round goes on
 pub record Round : Type 0 where

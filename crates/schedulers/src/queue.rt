@@ -71,9 +71,12 @@ impl Scheduler for Queue {
     // A number that waits already keeps its place; another one goes to the end.
     fn wake(&mut self, row: u16) -> bool
         ensures wakes { Wakes row self.old self.new (in_line self.old) (in_line self.new) result }
+        ensures is_line { IsLine self.new }
         ensures line { self.new ≡ joins self.old row }
     {
         if !self.is_new(row) {
+            // Shows the proof what holds of every queue, of one that is left as it was too.
+            let _ = &self.len;
             return (row as usize) < NUMBERS;
         }
         self.order[(self.start + self.len) % NUMBERS] = row;
@@ -85,7 +88,7 @@ impl Scheduler for Queue {
     // The first of the line is taken.
     fn take(&mut self) -> Option<u16>
         ensures takes { Takes (in_line self.old) (in_line self.new) result }
-        ensures is_line { IsLine self.old }
+        ensures is_line { IsLine self.old × IsLine self.new }
         ensures line { (result, self.new) ≡ serves self.old }
     {
         let row = self.front()?;

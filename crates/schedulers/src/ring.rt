@@ -32,6 +32,7 @@ impl Model for Ring {
 impl Ring {
     // A ring in which none waits, and whose round starts at 0.
     pub fn new() -> Ring
+        ensures is_round { IsRound result }
         ensures none { NoneWaits (marked result.waiting) }
         ensures start { result.next ≡ 0 }
     {
@@ -65,8 +66,11 @@ impl Scheduler for Ring {
 
     fn wake(&mut self, row: u16) -> bool
         ensures wakes { Wakes row self.old self.new (in_round self.old) (in_round self.new) result }
+        ensures is_round { IsRound self.new }
         ensures next { self.new.next ≡ self.old.next }
     {
+        // Shows the proof what holds of every ring, of one that is left as it was too.
+        let _ = &self.bound;
         let k = row as usize;
         if k >= NUMBERS {
             return false;
@@ -78,7 +82,7 @@ impl Scheduler for Ring {
 
     fn take(&mut self) -> Option<u16>
         ensures takes { Takes (in_round self.old) (in_round self.new) result }
-        ensures is_round { IsRound self.old }
+        ensures is_round { IsRound self.old × IsRound self.new }
         ensures order { result ≡ seek (in_round self.old) self.old.next 1024 }
         ensures next { MovesOn self.old.next self.new.next result }
     {
@@ -95,6 +99,7 @@ impl Scheduler for Ring {
     // The round goes on after the number last taken.
     fn clear(&mut self)
         ensures none { NoneWaits (in_round self.new) }
+        ensures is_round { IsRound self.new }
         ensures next { self.new.next ≡ self.old.next }
     {
         self.waiting = no_marks();

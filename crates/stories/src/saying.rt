@@ -13,6 +13,11 @@ use narrowing::Verdict;
 use std::fmt;
 use table::relation::Relation;
 
+// Said before the first fact, and where there is nothing to tell it to.
+pub const NOTHING_TOLD: &str = "Nothing is told yet.";
+
+pub const NOTHING_FITS: &str = "The rules contradict one another: nothing fits them.";
+
 #[derive(Clone, Copy)]
 pub struct RuleInWords<'a> {
     pub flags: Flags<'a>,
@@ -95,7 +100,7 @@ impl fmt::Display for FactTold<'_> {
     ghost output = { λ said. Some (told_text said.flags.names.now said.fact) };
 
     fn fmt<W: fmt::Write>(&self, f: &mut fmt::Formatter<W>) -> fmt::Result {
-        let name = self.flags.name(self.fact.flag as usize);
+        let name = self.flags.name(usize::from(self.fact.flag));
         let value = yes_or_no(self.fact.value);
         write!(f, "Told: {name} is {value}.")
     }
@@ -178,7 +183,7 @@ impl StillOpen<'_> {
         ensures { result ≡ is_open self.now.flags.names.now (at self.now.b.now) flag }
     {
         let set = self.b.get(flag);
-        (flag as usize) < self.flags.names.len() && set.contains(false) && set.contains(true)
+        usize::from(flag) < self.flags.names.len() && set.contains(false) && set.contains(true)
     }
 
     // Then writes its name, where none was written yet or after the others.
@@ -194,7 +199,7 @@ impl StillOpen<'_> {
             return Ok(());
         }
         let separator = before_name(none);
-        let name = self.flags.name(flag as usize);
+        let name = self.flags.name(usize::from(flag));
         write!(f, "{separator}{name}")
     }
 }

@@ -1,4 +1,4 @@
-// Narrowing over tables and joined books, under every scheduler, and against brute force.
+// Narrowing by the index, over tables and joined books, under every scheduler, and against brute force.
 use super::{check_sets, fact, four_flags, no, yes};
 use clauses::clauses::Clauses;
 use index::Index;
@@ -201,7 +201,7 @@ fn meets_all(state: u8) -> bool {
 }
 
 // Every state that fits the fact lies in the box, and striking any row once more changes nothing.
-fn check_narrowed<B: Book>(rt: &impl Abort, book: &B, b: &FlagBox, fact: Fact) -> Result<(), Fail> {
+fn check_narrowed<B: Book>(rt: &impl Abort, book: &B, b: &FlagBox, fact: Fact) {
     for state in 0..64u8 {
         if meets_all(state) && digit(state, fact.flag) == fact.value {
             for other in 0..6u8 {
@@ -213,7 +213,6 @@ fn check_narrowed<B: Book>(rt: &impl Abort, book: &B, b: &FlagBox, fact: Fact) -
         let mut again = *b;
         assert_eq!(rt; book.strike(row, &mut again), Strike::Unchanged);
     }
-    Ok(())
 }
 
 // The value of one of six flags in a state.
@@ -235,7 +234,7 @@ fn check_fact<B: Book, L: Scheduler>(
     lanes: &mut L,
     open: &FlagBox,
     fact: Fact,
-) -> Result<(), Fail> {
+) {
     let mut a = *open;
     let mut b = *open;
     let mut c = *open;
@@ -246,17 +245,16 @@ fn check_fact<B: Book, L: Scheduler>(
     match verdict {
         Verdict::Alive => {
             assert!(rt; a == b && a == c);
-            check_narrowed(rt, indexed.book(), &a, fact)
+            check_narrowed(rt, indexed.book(), &a, fact);
         }
         Verdict::Dead => check_none_fits(rt, fact),
     }
 }
 
-fn check_none_fits(rt: &impl Abort, fact: Fact) -> Result<(), Fail> {
+fn check_none_fits(rt: &impl Abort, fact: Fact) {
     for state in 0..64u8 {
         assert!(rt; !(meets_all(state) && digit(state, fact.flag) == fact.value));
     }
-    Ok(())
 }
 
 // Each fact alone, under a ring, a queue and lanes over a queue and a ring.
@@ -268,8 +266,8 @@ fn all_orders_end_in_the_same_box(rt: HostRuntime) -> Result<(), Fail> {
     let mut open = FlagBox::all_open();
     assert_eq!(rt; indexed.narrow(&mut lanes, &mut open), Verdict::Alive);
     for flag in 0..6u8 {
-        check_fact(&rt, &indexed, &mut lanes, &open, fact(flag, false))?;
-        check_fact(&rt, &indexed, &mut lanes, &open, fact(flag, true))?;
+        check_fact(&rt, &indexed, &mut lanes, &open, fact(flag, false));
+        check_fact(&rt, &indexed, &mut lanes, &open, fact(flag, true));
     }
     Ok(())
 }

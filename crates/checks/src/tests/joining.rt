@@ -120,7 +120,7 @@ fn the_index_lists_what_touches_says(rt: HostRuntime) -> Result<(), Fail> {
 fn check_listed<B: Book>(rt: &impl Abort, book: &B, index: &Index) {
     for flag in 0..=u8::MAX {
         for row in 0..6u16 {
-            let touched = book.touches(row, flag as usize);
+            let touched = book.touches(row, usize::from(flag));
             assert_eq!(rt; index.rows_with(flag).contains(&row), touched);
             assert_eq!(rt; index.flags_in(row).contains(&flag), touched);
         }

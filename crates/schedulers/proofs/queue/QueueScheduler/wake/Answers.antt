@@ -1,5 +1,5 @@
 use Rattle.std.proofs.Common.{sym}
-use Rattle.schedulers.proofs.Queueing.{sound_joined, joined, woken}
+use Rattle.schedulers.proofs.Queueing.{sound_joined, sound_line, joined, woken}
 use Rattle.schedulers.proofs.queue.QueueScheduler.wake.Goals as goal
 
 pub invariant_of-self : goal.invariant_of-self
@@ -10,5 +10,6 @@ returns c =
     let is-new = rw (← c.self.view_is) at (sym c.if-not-is_new.ensures) in
     rw (← c.self.view_is) record {
       wakes = woken _ _ _ _ c.self.invariant c.args.row is-new;
+      is_line = sound_line _ _ _ _ (sound_joined _ _ _ _ c.self.invariant c.args.row is-new);
       line = joined _ _ _ _ c.self.invariant c.args.row is-new;
     }
