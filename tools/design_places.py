@@ -109,9 +109,23 @@ premises = collections.Counter()
 for f, name, _, contract, _ in functions():
     for p in {p.strip() for c in contract for p in re.findall(r"\{ ([^{}→]*?) → ", c) if "≡" not in p}:
         premises[p] += 1
-report("5", "premises that stand in three or more contracts", (f"{p}: {n}" for p, n in premises.most_common() if n >= 3))
+report("5", "premises that stand in three or more contracts",
+       (f"{p}: {n}" for p, n in premises.most_common() if n >= 3 and not p.startswith("(")))
 
-report("6", "fields that are buffers, or a length beside one", lines(r"^\s+(pub )?\w+: (\[.*; \w+\]|Vec<.*>|usize),$"))
+
+def fields():
+    """The lines of structs."""
+    for f in FILES:
+        text = code(TEXT[f])
+        for m in re.finditer(r"^(?:pub )?struct \w+[^;{]*\{\n(.*?)^\}", text, re.M | re.S):
+            start = text.count("\n", 0, m.start(1)) + 1
+            for n, line in enumerate(m.group(1).splitlines(), start):
+                if not line.lstrip().startswith("ghost"):
+                    yield f"{f}:{n}: {line.strip()}"
+
+
+report("6", "fields that are buffers, or a length beside one",
+       (x for x in fields() if re.search(r": (\[.*; \w+\]|Vec<.*>|usize),$", x)))
 report("7", "pointers to functions and trait objects", lines(r"\bdyn |: fn\("))
 report("7", "matches on an enum of our own", lines(r"^\s*('\w+: )?(let .* = )?match (?!self\.\w+\(.*\)\s*\{$).*\{$"))
 
