@@ -4,17 +4,8 @@ use Rattle.std.proofs.lemmas.Bool.{and_parts, or_left, or_right, or_from, lt-ltb
 use Rattle.std.proofs.lemmas.Grind.{common_steps}
 use Rattle.std.proofs.lemmas.Bool.Decides.{nat_tests}
 use Rattle.model.specs.Waiting.{Bounded, NoneWaits, Takes}
-use Rattle.schedulers.specs.Lanes.{Lane, First, Second, among, some_below, lane_served, lane_answered, in_lanes, LaneTakes}
+use Rattle.schedulers.specs.Lanes.{First, Second, in_lane, some_below, lane_served, lane_answered, in_lanes, LaneTakes}
 use Rattle.schedulers.specs.declared.lanes.Lanes.{Lanes}
-
--- whether a number belongs in a lane
-abbrev pub belongs : ℕ → Lane → ℕ → Bool
-belongs boundary First k = ltb k boundary
-belongs boundary Second k = not (ltb k boundary)
-
--- of the numbers that sit in a lane's scheduler, those that belong there
-abbrev pub in_lane : ℕ → Lane → (ℕ → Bool) → ℕ → Bool
-in_lane boundary lane sits = among (belongs boundary lane) sits
 
 some_waits : (n : ℕ) (waits : ℕ → Bool) (k : ℕ) → k < n → waits k ≡ true → some_below n waits ≡ true
 unfolding some_below

@@ -1,16 +1,22 @@
 -- Two lanes, each with a scheduler: the first for the numbers below a boundary, the second for the rest.
-use Rattle.std.specs.Prelude.{◌≡◌, ℕ, zero, suc, ◌<◌, ◌≤◌, Bool, true, false, cond, ◌&&◌, ◌||◌, Some, None, Option, nat_lt}
+use Rattle.std.specs.Prelude.{◌≡◌, ℕ, zero, suc, ◌<◌, ◌≤◌, Bool, true, false, cond, not, ◌&&◌, ◌||◌, Some, None, Option, nat_lt}
 use Rattle.model.specs.Waiting.{Wakes, NoneWaits}
+pub use Rattle.schedulers.specs.declared.lanes.Lane.{Lane}
+pub use Rattle.schedulers.specs.declared.lanes.Lane.TheVariants.{First, Second}
 use Rattle.schedulers.specs.declared.lanes.Lanes.{Lanes}
 
--- the two lanes
-pub data Lane : Type 0 where
-  First : Lane
-  Second : Lane
+-- whether a number belongs in a lane
+abbrev pub belongs : ℕ → Lane → ℕ → Bool
+belongs boundary First k = nat_lt k boundary
+belongs boundary Second k = not (nat_lt k boundary)
 
 -- of the numbers that sit in a scheduler, those of a lane
 abbrev pub among : (ℕ → Bool) → (ℕ → Bool) → ℕ → Bool
 among lane sits k = lane k && sits k
+
+-- of the numbers that sit in a lane's scheduler, those that belong there
+abbrev pub in_lane : ℕ → Lane → (ℕ → Bool) → ℕ → Bool
+in_lane boundary lane sits k = belongs boundary lane k && sits k
 
 -- the answers of a test tell which numbers are of a lane
 abbrev pub Tells : (ℕ → Bool → Type 0) → (ℕ → Bool) → Type 0

@@ -5,6 +5,13 @@ ghost use Rattle.schedulers.specs.Bounds.{bounded_either};
 
 use model::scheduler::Scheduler;
 
+// The two lanes, of which contracts speak.
+#[derive(Clone, Copy, PartialEq, Eq, Debug)]
+pub enum Lane {
+    First,
+    Second,
+}
+
 // A scheduler made of two, one for each lane: the first lane is for the numbers below a boundary, the second for the rest. The first lane is
 // served first.
 #[derive(Drop)]

@@ -1,7 +1,7 @@
 use Rattle.std.proofs.Common.{rules, arith}
 use Rattle.std.proofs.lemmas.Grind.{common_steps}
-use Rattle.schedulers.specs.Lanes.{First, Second}
-use Rattle.schedulers.proofs.Serving.{belongs, of_first, takes_second, of_second}
+use Rattle.schedulers.specs.Lanes.{First, Second, belongs}
+use Rattle.schedulers.proofs.Serving.{of_first, takes_second, of_second}
 use Rattle.schedulers.proofs.lanes.LanesScheduler.take.Goals as goal
 
 pub returns-in-Some : goal.returns-in-Some
