@@ -3,6 +3,7 @@ ghost use Rattle.std.specs.Prelude.{◌≡◌, true, false, []};
 ghost use Rattle.model.specs.Rows.{workable};
 ghost use Rattle.model.specs.View.{at};
 ghost use Rattle.model.specs.Waiting.{NoneWaits};
+ghost use Rattle.schedulers.specs.Lines.{line};
 ghost use Rattle.schedulers.specs.Marks.{marked};
 ghost use Rattle.gateway_orders.specs.Orders.{Agree, StartedAll, ToldAll};
 
@@ -34,8 +35,8 @@ pub struct Boxes {
 // None waits yet. The lanes serve the rows below the boundary first.
 pub fn orders_with(boundary: u16) -> Orders
     ensures ring { NoneWaits (marked result.ring.waiting) }
-    ensures queue { result.queue ≡ [] }
-    ensures lanes { (NoneWaits (marked result.lanes.second.waiting)) × (result.lanes.first ≡ []) }
+    ensures queue { line result.queue ≡ [] }
+    ensures lanes { (NoneWaits (marked result.lanes.second.waiting)) × (line result.lanes.first ≡ []) }
     ensures boundary { result.lanes.boundary ≡ boundary }
 {
     Orders {

@@ -1,26 +1,17 @@
 -- Lists of marks.
-use Rattle.std.specs.Prelude.{◌≡◌, ℕ, zero, suc, ◌+◌, ◌<◌, Bool, true, false, cond, not, ◌&&◌, ◌||◌, List, length, replicate, ◌==◌, slice_set, nat_lt, Some, refl}
-use Rattle.std.proofs.Common.{ap, ◌∙◌, inl, inr, arith}
-use Rattle.std.proofs.lemmas.Bool.{both_ways, cases_lt}
+use Rattle.std.specs.Prelude.{◌≡◌, ℕ, zero, suc, ◌+◌, ◌<◌, Bool, true, false, cond, not, ◌&&◌, ◌||◌, List, length, replicate, ◌==◌, slice_set, refl}
+use Rattle.std.proofs.Common.{arith}
 use Rattle.std.proofs.lemmas.List.Sums.{count_by-le-length, sum_by-set}
-use Rattle.std.proofs.lemmas.List.{length-set, get_or_past, get_or-set_other}
-use Rattle.std.proofs.Math.Bool.{and_comm, and_assoc}
+use Rattle.std.proofs.lemmas.List.{length-set, get_or-set_other}
 use Rattle.std.proofs.lemmas.Grind.{common_steps}
 use Rattle.std.proofs.lemmas.Bool.Decides.{nat_tests}
-use Rattle.model.specs.Waiting.{Takes}
-use Rattle.schedulers.specs.Bounds.{bounded_below}
-use Rattle.schedulers.specs.Marks.{below_1024, marked, tally}
+use Rattle.schedulers.specs.Marks.{marked, tally}
 
 -- where no mark was set, none is
 pub none_marked : (n k : ℕ) → marked (replicate n false) k ≡ false
 none_marked zero k = refl
 none_marked (suc n) zero = refl
 none_marked (suc n) (suc k) = none_marked n k
-
--- a marked number stands within the list
-pub marked_within : (marks : List Bool) (n k : ℕ) → length marks ≡ n → marked marks k ≡ true → k < n
-marked_within marks n k e w =
-    elim (cases_lt k n) [ inl h ↦ h | inr h ↦ absurd (both_ways (marked marks k) (get_or_past marks k false (omega arith)) w) ]
 
 -- one mark more
 pub tally_more : (marks : List Bool) (k : ℕ) → k < length marks → marked marks k ≡ false → tally (slice_set marks k true) ≡ tally marks + 1
@@ -43,11 +34,3 @@ marked_set marks k l j = grind (arith, common_steps, nat_tests, get_or-set_other
 
 pub marked_unset : (marks : List Bool) (k : ℕ) → k < length marks → (j : ℕ) → marked (slice_set marks k false) j ≡ (not (j == k) && marked marks j)
 marked_unset marks k l j = grind (arith, common_steps, nat_tests, get_or-set_other marks k j false false)
-
--- a waiting number is taken: its mark goes
-pub unmarked : (marks : List Bool) (k : ℕ) → length marks ≡ 1024 → below_1024 (marked marks) k ≡ true → Takes (below_1024 (marked marks)) (below_1024 (marked (slice_set marks k false))) (Some k)
-unmarked marks k size w = (
-  w,
-  λ j. ap (λ t. nat_lt j 1024 && t) (marked_unset marks k (omega (arith, size, bounded_below (marked marks) k w)) j)
-      ∙ grind (arith, and_comm, and_assoc),
-)

@@ -1,18 +1,18 @@
 -- Lines that stand in a circle of places, with marks for the numbers in them.
-use Rattle.std.proofs.Common.{◌≡◌, ℕ, zero, suc, ◌+◌, ◌-◌, ◌%◌, ◌<◌, Bool, true, false, not, ◌&&◌, ◌||◌, eqb, ltb, ◌≢◌, List, [], ◌∷◌, ◌++◌, length, get_or, set, Some, sym, refl, ap, ◌∙◌, subst, arith}
+use Rattle.std.proofs.Common.{◌≡◌, ℕ, zero, suc, ◌+◌, ◌-◌, ◌%◌, ◌<◌, Bool, true, false, not, ◌&&◌, ◌||◌, eqb, ltb, ◌≢◌, List, [], ◌∷◌, ◌++◌, length, get_or, set, Some, Option, sym, refl, ap, ◌∙◌, arith}
 use Rattle.std.proofs.lemmas.List.{get_or-set_same, get_or-set_other, length-set}
 use Rattle.std.proofs.lemmas.Option.{none-some, same_Some}
 use Rattle.std.proofs.Math.Bool.{or_comm, or_assoc}
-use Rattle.std.proofs.lemmas.Bool.{and_parts, ltb-true, not-true, or_left, or_parts, or_from, eqb-false, eq-eqb, ne_eqb, cond-true}
+use Rattle.std.proofs.lemmas.Bool.{and_parts, and_from, ltb-true, lt-ltb, not-true, not_from_false, or_left, or_parts, or_from, eqb-false, eq-eqb, ne_eqb, cond-true}
 use Rattle.std.proofs.lemmas.Grind.{common_steps}
 use Rattle.std.proofs.lemmas.Bool.Decides.{nat_tests}
 use Rattle.model.specs.Refusals.{some_twice}
 use Rattle.model.specs.Rows.{elem}
-use Rattle.model.specs.Waiting.{Wakes, Takes}
+use Rattle.schedulers.specs.Bounds.{marked_within}
 use Rattle.schedulers.specs.Marks.{marked}
 use Rattle.schedulers.specs.Rings.{after}
-use Rattle.schedulers.specs.Queues.{IsLine, line_of, in_line, joins, serves, Sound}
-use Rattle.schedulers.proofs.Marking.{marked_within, marked_set, marked_unset, tally_more, tally_fewer, tally_room}
+use Rattle.schedulers.specs.Queues.{line_of, joins, serves, Sound}
+use Rattle.schedulers.proofs.Marking.{marked_set, marked_unset, tally_more, tally_fewer, tally_room}
 
 -- where a line serves a number, it stands at the start, and the rest begins at the next place
 line_first : (order : List ℕ) (start len row : ℕ) → (serves (line_of order start len)).0 ≡ Some row → (0 < len) × (line_of order start len ≡ row ∷ line_of order (after start) (len - 1))
@@ -51,25 +51,17 @@ twice_push k (i ∷ is) n o =
     let apart : eqb i k ≡ false = ne_eqb i k (λ e. eqb-false k i here.0 (sym e)) in
     or_from (elem i (is ++ (k ∷ []))) (some_twice (is ++ (k ∷ []))) (elem_push i k is ∙ or_from (eqb i k) (elem i is) apart rest.0) (twice_push k is here.1 rest.1)
 
--- of a number that goes to the end of a line: it waits then, as do those that waited
-wakes_joined : (line : List ℕ) (row : ℕ) → row < 1024 → (k : ℕ) → in_line (line ++ (row ∷ [])) k ≡ (eqb k row || in_line line k)
-wakes_joined line row l k = grind (arith, common_steps, nat_tests, elem_push k row line)
-
--- of the first of a line, where none stands twice: it waited, and no longer does
-takes_served : (row : ℕ) (rest : List ℕ) → row < 1024 → elem row rest ≡ false → Takes (in_line (row ∷ rest)) (in_line rest) (Some row)
-takes_served row rest l once = (grind (arith, common_steps, nat_tests), λ k. grind (arith, common_steps, nat_tests))
-
 module _ (order : List ℕ) (start len : ℕ) (waiting : List Bool) (q : Sound order start len waiting) where
   -- a number that does not wait yet is put at the place after the line
-  module _ (row : ℕ) (is-new : (ltb row 1024 && not (elem row (line_of order start len))) ≡ true) where
-    low : row < 1024
+  module _ (row : ℕ) (is-new : (ltb row 1024 && not (marked waiting row)) ≡ true) where
+    pub low : row < 1024
     low = ltb-true row 1024 (and_parts (ltb row 1024) _ is-new).0
 
-    absent : elem row (line_of order start len) ≡ false
-    absent = not-true _ (and_parts (ltb row 1024) _ is-new).1
-
     new : marked waiting row ≡ false
-    new = q.members row ∙ absent
+    new = not-true _ (and_parts (ltb row 1024) _ is-new).1
+
+    absent : elem row (line_of order start len) ≡ false
+    absent = sym (q.members row) ∙ new
 
     within : row < length waiting
     within = omega (arith, low, q.marks)
@@ -80,24 +72,21 @@ module _ (order : List ℕ) (start len : ℕ) (waiting : List Bool) (q : Sound o
     pushed : line_of (set order ((start + len) % 1024) row) start (len + 1) ≡ line_of order start len ++ (row ∷ [])
     pushed = line_push order row _ q.places len start q.inside room refl
 
+    pub joined : line_of (set order ((start + len) % 1024) row) start (len + 1) ≡ joins (line_of order start len) row
+    joined = pushed ∙ sym (cond-true _ _ _ (and_from (ltb row 1024) _ (lt-ltb row 1024 low) (not_from_false _ absent)))
+
+    pub now_waiting : (k : ℕ) → marked (set waiting row true) k ≡ (eqb k row || marked waiting k)
+    now_waiting = marked_set waiting row within
+
     pub sound_joined : Sound (set order ((start + len) % 1024) row) start (len + 1) (set waiting row true)
     sound_joined = record {
       places = length-set order _ row ∙ q.places;
       marks = length-set waiting row true ∙ q.marks;
       inside = q.inside;
       short = omega (arith, room);
-      members = λ k. marked_set waiting row within k ∙ ap (λ t. eqb k row || t) (q.members k) ∙ sym (ap (elem k) pushed ∙ elem_push k row _);
+      members = λ k. now_waiting k ∙ ap (λ t. eqb k row || t) (q.members k) ∙ sym (ap (elem k) pushed ∙ elem_push k row _);
       once = ap some_twice pushed ∙ twice_push row _ absent q.once;
       count = tally_more waiting row within new ∙ ap (λ n. n + 1) q.count;
-    }
-
-    pub joined : line_of (set order ((start + len) % 1024) row) start (len + 1) ≡ joins (line_of order start len) row
-    joined = pushed ∙ sym (cond-true _ _ _ is-new)
-
-    pub woken : Wakes row (line_of order start len) (line_of (set order ((start + len) % 1024) row) start (len + 1)) (in_line (line_of order start len)) (in_line (line_of (set order ((start + len) % 1024) row) start (len + 1))) true
-    woken = record {
-      added = λ _. (refl, λ k. ap (λ line. in_line line k) pushed ∙ wakes_joined _ row low k);
-      refused = λ h. absurd (omega (arith, low));
     }
 
   -- the number that the line serves is taken
@@ -108,7 +97,10 @@ module _ (order : List ℕ) (start len : ℕ) (waiting : List Bool) (q : Sound o
     whole : line_of order start len ≡ row ∷ line_of order (after start) (len - 1)
     whole = (line_first order start len row first).1
 
-    first_waits : marked waiting row ≡ true
+    pub served : ◌≡◌ {A = Option ℕ × List ℕ} (Some row, line_of order (after start) (len - 1)) (serves (line_of order start len))
+    served = sym (ap serves whole)
+
+    pub first_waits : marked waiting row ≡ true
     first_waits = q.members _ ∙ ap (elem row) whole ∙ or_left _ _ (eq-eqb row row refl)
 
     pub first_low : row < 1024
@@ -120,20 +112,16 @@ module _ (order : List ℕ) (start len : ℕ) (waiting : List Bool) (q : Sound o
     gone : (k : ℕ) → (not (eqb k row) && marked waiting k) ≡ elem k (line_of order (after start) (len - 1))
     gone k = grind (arith, common_steps, nat_tests, parts.0, q.members k, ap (elem k) whole)
 
+    pub still_waiting : (k : ℕ) → marked (set waiting row false) k ≡ (not (eqb k row) && marked waiting k)
+    still_waiting = marked_unset waiting _ (omega (arith, first_low, q.marks))
+
     pub sound_served : Sound order (after start) (len - 1) (set waiting row false)
     sound_served = record {
       places = q.places;
       marks = length-set waiting _ false ∙ q.marks;
       inside = omega arith;
       short = omega (arith, q.short);
-      members = λ k. marked_unset waiting _ (omega (arith, first_low, q.marks)) k ∙ gone k;
+      members = λ k. still_waiting k ∙ gone k;
       once = parts.1;
       count = omega (arith, tally_fewer waiting _ (omega (arith, first_low, q.marks)) first_waits, q.count);
     }
-
-    pub taken : Takes (in_line (line_of order start len)) (in_line (line_of order (after start) (len - 1))) (Some row)
-    taken = subst (λ (line : List ℕ). Takes (in_line line) (in_line (line_of order (after start) (len - 1))) (Some row)) (sym whole) (takes_served _ _ first_low parts.0)
-
--- what a queue holds is a line
-pub sound_line : (order : List ℕ) (start len : ℕ) (waiting : List Bool) → Sound order start len waiting → IsLine (line_of order start len)
-sound_line order start len waiting q = record { once = q.once; low = λ k e. marked_within waiting 1024 k q.marks (q.members k ∙ e) }

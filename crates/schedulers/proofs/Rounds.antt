@@ -1,20 +1,15 @@
 -- Why the number that a ring seeks is the one that comes first, going round.
-use Rattle.std.proofs.Common.{◌≡◌, ℕ, zero, suc, ◌+◌, ◌-◌, ◌<◌, ◌≤◌, Bool, true, false, ◌⊎◌, Some, None, Option, sym, refl, ap, ◌∙◌, subst, inl, inr, mod-eq_of_lt, arith, min, MatchOption}
+use Rattle.std.proofs.Common.{◌≡◌, ℕ, zero, suc, ◌+◌, ◌-◌, ◌<◌, ◌≤◌, Bool, true, false, ◌⊎◌, List, Some, None, Option, sym, refl, ap, ◌∙◌, subst, inl, inr, mod-eq_of_lt, arith, min, MatchOption}
 use Rattle.std.proofs.lemmas.Option.{none-some}
-use Rattle.std.proofs.lemmas.Bool.{cases_Bool, cases_lt, cases_eq, cond-true, cond-false, and_right, and_from, lt-ltb}
+use Rattle.std.proofs.lemmas.Bool.{cases_Bool, cases_lt, cases_eq, cond-true, cond-false}
 use Rattle.model.specs.Waiting.{Bounded, NoneWaits}
 use Rattle.schedulers.specs.Marks.{marked}
-use Rattle.schedulers.specs.Rings.{Round, Sound, in_round, after, seek, Leads, Due, ComesFirst, InOrder, RingOrder}
+use Rattle.schedulers.specs.Rings.{after, seek, Leads, Due, ComesFirst, InOrder, RingOrder}
 
 -- what is first on a stretch of a ring, where none waits from the bound on
-pub walked : (round : Round) (bound from to : ℕ) → Sound round bound → (r : Option ℕ) → MatchOption r ((k : ℕ) → from ≤ k → k < min to bound → marked round.waiting k ≡ false) (λ i. (from ≤ i) × (i < min to bound) × (marked round.waiting i ≡ true) × ((k : ℕ) → from ≤ k → k < i → marked round.waiting k ≡ false)) → MatchOption r ((k : ℕ) → from ≤ k → k < to → in_round round k ≡ false) (λ k. Leads (in_round round) from to k)
-walked round bound from to s None h = λ k a b. and_right _ _ (elim (cases_lt k bound) [ inl l ↦ h k a (omega arith) | inr g ↦ s.quiet k g ])
-walked round bound from to s (Some i) (a, b, w, h) = record {
-  on = a;
-  below = omega arith;
-  waiting = and_from _ _ (lt-ltb i 1024 (omega (arith, s.limit))) w;
-  first = λ k p q. and_right _ _ (h k p q);
-}
+pub walked : (marks : List Bool) (bound from to : ℕ) → ((k : ℕ) → bound ≤ k → marked marks k ≡ false) → (r : Option ℕ) → MatchOption r ((k : ℕ) → from ≤ k → k < min to bound → marked marks k ≡ false) (λ i. (from ≤ i) × (i < min to bound) × (marked marks i ≡ true) × ((k : ℕ) → from ≤ k → k < i → marked marks k ≡ false)) → MatchOption r ((k : ℕ) → from ≤ k → k < to → marked marks k ≡ false) (λ k. Leads (marked marks) from to k)
+walked marks bound from to quiet None h = λ k a b. elim (cases_lt k bound) [ inl l ↦ h k a (omega arith) | inr g ↦ quiet k g ]
+walked marks bound from to quiet (Some i) (a, b, w, h) = record { on = a; below = omega arith; waiting = w; first = h }
 
 module _ (waits : ℕ → Bool) where
   -- a waiting number is found where the walk starts

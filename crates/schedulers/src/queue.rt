@@ -1,12 +1,13 @@
-ghost use Rattle.std.specs.Prelude.{◌≡◌, not, ◌&&◌, [], nat_lt};
+ghost use Rattle.std.specs.Prelude.{◌≡◌, ℕ, ◌<◌, ◌≤◌, false, not, ◌&&◌, [], length, nat_lt};
+ghost use Rattle.model.specs.Refusals.{some_twice};
 ghost use Rattle.model.specs.Rows.{elem};
 ghost use Rattle.model.specs.Waiting.{Wakes, Takes, NoneWaits};
-ghost use Rattle.schedulers.specs.Queues.{in_line, joins, serves, IsLine};
-ghost use Rattle.schedulers.specs.Bounds.{bounded_below};
+ghost use Rattle.schedulers.specs.Marks.{marked, tally};
+ghost use Rattle.schedulers.specs.Queues.{line_of, joins, serves, IsLine};
+ghost use Rattle.schedulers.specs.Bounds.{marked_within};
 
 use crate::marks::{NUMBERS, no_marks};
 use model::scheduler::Scheduler;
-use std::marker::Model;
 
 // A scheduler that gives the number that has waited longest. Waking and taking cost the same, however many wait.
 #[derive(Drop)]
@@ -18,24 +19,21 @@ pub struct Queue {
     len: usize,
     // Which numbers stand in the line, so that waking need not look for one.
     waiting: [bool; NUMBERS],
-}
-
-// Clauses see the line: the numbers that wait, the one that has waited longest first.
-impl Model for Queue {
-    ghost use Rattle.std.specs.Prelude.{ℕ, List};
-    ghost use Rattle.schedulers.specs.Queues.{line_of, Sound};
-
-    ghost Value = { List ℕ };
-
-    ghost view = { λ queue. line_of queue.order queue.start queue.len };
-
-    ghost invariant = { λ queue. Sound queue.order queue.start queue.len queue.waiting };
+    ghost places: { length order ≡ 1024 },
+    ghost marks: { length waiting ≡ 1024 },
+    ghost inside: { start < 1024 },
+    ghost short: { len ≤ 1024 },
+    ghost members: { (k : ℕ) → marked waiting k ≡ elem k (line_of order start len) },
+    ghost once: { some_twice (line_of order start len) ≡ false },
+    ghost count: { tally waiting ≡ len },
 }
 
 impl Queue {
+    ghost use Rattle.schedulers.specs.Lines.{line};
+
     // A queue in which none waits.
     pub fn new() -> Queue
-        ensures { result ≡ [] }
+        ensures { line result ≡ [] }
     {
         Queue {
             order: [0; NUMBERS],
@@ -47,7 +45,7 @@ impl Queue {
 
     // The number that has waited longest.
     fn front(&self) -> Option<u16>
-        ensures { result ≡ (serves self.now).0 }
+        ensures { result ≡ (serves (line self.now)).0 }
     {
         if self.len == 0 {
             return None;
@@ -57,26 +55,26 @@ impl Queue {
 
     // Whether the number may wait and does not yet.
     fn is_new(&self, row: u16) -> bool
-        ensures { result ≡ (nat_lt row 1024 && not (elem row self.now)) }
+        ensures { result ≡ (nat_lt row 1024 && not (marked self.now.waiting row)) }
     {
         (row as usize) < NUMBERS && !self.waiting[row as usize]
     }
 }
 
 impl Scheduler for Queue {
-    ghost waits = { in_line };
+    ghost use Rattle.schedulers.specs.Lines.{line};
 
-    ghost bounded = { λ line. bounded_below (λ k. elem k line) };
+    ghost waits = { λ s. marked s.waiting };
+
+    ghost bounded = { λ s k w. marked_within s.waiting 1024 k s.marks w };
 
     // A number that waits already keeps its place; another one goes to the end.
     fn wake(&mut self, row: u16) -> bool
-        ensures wakes { Wakes row self.old self.new (in_line self.old) (in_line self.new) result }
-        ensures is_line { IsLine self.new }
-        ensures line { self.new ≡ joins self.old row }
+        ensures wakes { Wakes row self.old self.new (marked self.old.waiting) (marked self.new.waiting) result }
+        ensures is_line { IsLine (line self.new) }
+        ensures line { line self.new ≡ joins (line self.old) row }
     {
         if !self.is_new(row) {
-            // Shows the proof what holds of every queue, of one that is left as it was too.
-            let _ = &self.len;
             return (row as usize) < NUMBERS;
         }
         self.order[(self.start + self.len) % NUMBERS] = row;
@@ -87,9 +85,9 @@ impl Scheduler for Queue {
 
     // The first of the line is taken.
     fn take(&mut self) -> Option<u16>
-        ensures takes { Takes (in_line self.old) (in_line self.new) result }
-        ensures is_line { IsLine self.old × IsLine self.new }
-        ensures line { (result, self.new) ≡ serves self.old }
+        ensures takes { Takes (marked self.old.waiting) (marked self.new.waiting) result }
+        ensures is_line { IsLine (line self.old) × IsLine (line self.new) }
+        ensures line { (result, line self.new) ≡ serves (line self.old) }
     {
         let row = self.front()?;
         self.start = (self.start + 1) % NUMBERS;
@@ -99,8 +97,8 @@ impl Scheduler for Queue {
     }
 
     fn clear(&mut self)
-        ensures none { NoneWaits (in_line self.new) }
-        ensures line { self.new ≡ [] }
+        ensures none { NoneWaits (marked self.new.waiting) }
+        ensures line { line self.new ≡ [] }
     {
         self.waiting = no_marks();
         self.len = 0;

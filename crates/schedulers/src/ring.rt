@@ -1,12 +1,11 @@
-ghost use Rattle.std.specs.Prelude.{◌≡◌, ℕ, ◌<◌, ◌≤◌, false, MatchOption};
+ghost use Rattle.std.specs.Prelude.{◌≡◌, ℕ, ◌<◌, ◌≤◌, false, length, MatchOption};
 ghost use Rattle.model.specs.Waiting.{Wakes, Takes, NoneWaits};
 ghost use Rattle.schedulers.specs.Marks.{marked};
-ghost use Rattle.schedulers.specs.Rings.{in_round, seek, IsRound, Leads, Due, MovesOn};
-ghost use Rattle.schedulers.specs.Bounds.{bounded_below};
+ghost use Rattle.schedulers.specs.Rings.{seek, IsRound, Leads, Due, MovesOn};
+ghost use Rattle.schedulers.specs.Bounds.{marked_within};
 
 use crate::marks::{NUMBERS, no_marks};
 use model::scheduler::Scheduler;
-use std::marker::Model;
 
 // A scheduler that goes round: it gives the first waiting number after the one last taken, at first from 0.
 #[derive(Drop)]
@@ -16,23 +15,18 @@ pub struct Ring {
     next: usize,
     // No number from here on waits, so that a round walks only over numbers that were woken since the ring was last seen empty.
     bound: usize,
-}
-
-// Clauses see the marks and where the round goes on, and not the bound.
-impl Model for Ring {
-    ghost use Rattle.schedulers.specs.Rings.{Round, Sound};
-
-    ghost Value = { Round };
-
-    ghost view = { λ ring. record { waiting = ring.waiting; next = ring.next } };
-
-    ghost invariant = { λ ring. Sound (record { waiting = ring.waiting; next = ring.next }) ring.bound };
+    ghost size: { length waiting ≡ 1024 },
+    ghost inside: { next < 1024 },
+    ghost limit: { bound ≤ 1024 },
+    ghost quiet: { (k : ℕ) → bound ≤ k → marked waiting k ≡ false },
 }
 
 impl Ring {
+    ghost use Rattle.schedulers.specs.Rounds.{round};
+
     // A ring in which none waits, and whose round starts at 0.
     pub fn new() -> Ring
-        ensures is_round { IsRound result }
+        ensures is_round { IsRound (round result) }
         ensures none { NoneWaits (marked result.waiting) }
         ensures start { result.next ≡ 0 }
     {
@@ -45,14 +39,14 @@ impl Ring {
 
     // The first waiting number from `from` on and below `to`. The walk ends at the bound, since none waits past it.
     fn first(&self, from: usize, to: usize) -> Option<usize>
-        ensures { MatchOption result ((j : ℕ) → from ≤ j → j < to → in_round self.now j ≡ false) (λ k. Leads (in_round self.now) from to k) }
+        ensures { MatchOption result ((j : ℕ) → from ≤ j → j < to → marked self.now.waiting j ≡ false) (λ k. Leads (marked self.now.waiting) from to k) }
     {
         (from..to.min(self.bound)).find(|&k| self.waiting[k])
     }
 
     // The number that comes next: from where the round goes on to the end, and then from 0 to there.
     fn due(&self) -> Option<usize>
-        ensures { Due (in_round self.now) self.now.next result }
+        ensures { Due (marked self.now.waiting) self.now.next result }
     {
         self.first(self.next, NUMBERS)
             .or_else(|| self.first(0, self.next))
@@ -60,17 +54,17 @@ impl Ring {
 }
 
 impl Scheduler for Ring {
-    ghost waits = { in_round };
+    ghost use Rattle.schedulers.specs.Rounds.{round};
 
-    ghost bounded = { λ round. bounded_below (marked round.waiting) };
+    ghost waits = { λ s. marked s.waiting };
+
+    ghost bounded = { λ s k w. marked_within s.waiting 1024 k s.size w };
 
     fn wake(&mut self, row: u16) -> bool
-        ensures wakes { Wakes row self.old self.new (in_round self.old) (in_round self.new) result }
-        ensures is_round { IsRound self.new }
+        ensures wakes { Wakes row self.old self.new (marked self.old.waiting) (marked self.new.waiting) result }
+        ensures is_round { IsRound (round self.new) }
         ensures next { self.new.next ≡ self.old.next }
     {
-        // Shows the proof what holds of every ring, of one that is left as it was too.
-        let _ = &self.bound;
         let k = row as usize;
         if k >= NUMBERS {
             return false;
@@ -81,9 +75,9 @@ impl Scheduler for Ring {
     }
 
     fn take(&mut self) -> Option<u16>
-        ensures takes { Takes (in_round self.old) (in_round self.new) result }
-        ensures is_round { IsRound self.old × IsRound self.new }
-        ensures order { result ≡ seek (in_round self.old) self.old.next 1024 }
+        ensures takes { Takes (marked self.old.waiting) (marked self.new.waiting) result }
+        ensures is_round { IsRound (round self.old) × IsRound (round self.new) }
+        ensures order { result ≡ seek (marked self.old.waiting) self.old.next 1024 }
         ensures next { MovesOn self.old.next self.new.next result }
     {
         let Some(k) = self.due() else {
@@ -98,8 +92,8 @@ impl Scheduler for Ring {
 
     // The round goes on after the number last taken.
     fn clear(&mut self)
-        ensures none { NoneWaits (in_round self.new) }
-        ensures is_round { IsRound self.new }
+        ensures none { NoneWaits (marked self.new.waiting) }
+        ensures is_round { IsRound (round self.new) }
         ensures next { self.new.next ≡ self.old.next }
     {
         self.waiting = no_marks();

@@ -7,6 +7,6 @@ use Rattle.schedulers.proofs.ring.Ring.first.Goals as goal
 
 pub returns : goal.returns
 returns c =
-    let ring = c.self.inside in
+    let ring = c.args.self.now in
     let found = first_from_Range _ _ _ c.find.result (λ k. marked ring.waiting k ≡ true) (λ k. marked ring.waiting k ≡ false) c.find.ensures.ran (λ x q k. search (rules, tests)) (λ x q k. search (rules, tests)) in
-    rw (← c.self.view_is) (walked _ ring.bound c.args.from c.args.to c.self.invariant c.find.result (rw c.min.ensures at found))
+    walked _ ring.bound c.args.from c.args.to ring.quiet c.find.result (rw c.min.ensures at found)
