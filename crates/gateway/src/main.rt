@@ -4,7 +4,7 @@
 use schedulers::ring::Ring;
 use stories::books::table_of;
 use stories::examples::{FOUR, FOUR_TOLD_OTHERWISE, GATEWAY};
-use stories::saying::{FactTold, NOTHING_FITS, NOTHING_TOLD, Outcome, StillOpen, StruckOut};
+use stories::saying::{FactTold, Outcome, StillOpen, StruckOut, nothing_fits, nothing_told};
 use stories::story::Story;
 use telling::{start, tell};
 
@@ -17,10 +17,10 @@ fn tell_story(rt: &HostRuntime, story: Story<'_>) -> anyhow::Result<()> {
     let mut ring = Ring::new();
     rt.print(story)?;
     let Some(mut b) = start(&table, &mut ring) else {
-        rt.println(NOTHING_FITS)?;
+        rt.println(nothing_fits())?;
         return Ok(());
     };
-    rt.println(NOTHING_TOLD)?;
+    rt.println(nothing_told())?;
     rt.println(StillOpen { flags, b: &b })?;
     for fact in story.facts {
         let fact = *fact;

@@ -1,10 +1,8 @@
 -- Why all orders come to the same box.
-use Rattle.std.proofs.Common.{◌≡◌, ℕ, ◌<◌, Bool, true, false, not, List, length, get_or, sym, ap, ◌∙◌, subst, ⊎_elim, arith, rules}
+use Rattle.std.proofs.Common.{◌≡◌, ℕ, ◌<◌, Bool, false, not, List, sym, ap, ◌∙◌, subst, ⊎_elim, arith, rules}
 use mathlib.Core.Path.{fun_ext}
 use Rattle.std.proofs.lemmas.Bool.{cases_eq, cases_lt, not-false}
-use Rattle.std.proofs.lemmas.List.{ext_get_or}
-use lib.Pointwise.{pointwise, pointwise_decides}
-use denote.Enum.Bare.{sameb, same_true, true_same}
+use denote.Enum.Bare.{sameb, same_true}
 use Rattle.model.specs.contracts.domain.Domain.{the_type}
 use Rattle.model.specs.Rows.{Row}
 use Rattle.model.specs.Boxes as boxes
@@ -13,8 +11,7 @@ use Rattle.model.specs.Facts.{Facts, LargestUnder, told, facts_box}
 use Rattle.model.specs.View.{at}
 use Rattle.model.specs.declared.boxes.FlagBox.{FlagBox}
 use Rattle.model.specs.declared.domain.Domain.{Domain}
-use Rattle.model.specs.declared.domain.Domain.TheVariants.{Open}
-use Rattle.model.proofs.Holding.{of_list, past_open, read_at}
+use Rattle.model.proofs.Holding.{past_open}
 use Rattle.model.proofs.Stand.{box_laws}
 use Rattle.narrowing.specs.declared.Verdict.{Verdict}
 use Rattle.narrowing.specs.declared.Verdict.TheVariants.{Alive, Dead}
@@ -54,25 +51,6 @@ told_all rows before after f v x y z r q s held l a g =
         told_agree x z rows held f v _ _ _ _ g.1 l a t s,
       ),
     )
-
--- what `==` answers at two boxes
-abbrev equal : FlagBox → FlagBox → Bool
-equal a b = pointwise (sameb the_type) a.sets b.sets
-
-decides : (x y : Domain) → (sameb the_type x y ≡ true → x ≡ y) × (x ≡ y → sameb the_type x y ≡ true)
-decides x y = (same_true the_type (search rules) x y, true_same the_type x y)
-
-pub equal_same : (a b : FlagBox) → equal a b ≡ true → at a ≡ at b
-unfolding at
-equal_same a b e = ap of_list ((pointwise_decides decides a.sets b.sets).0 e)
-
-pub same_equal : (a b : FlagBox) → at a ≡ at b → equal a b ≡ true
-unfolding at
-same_equal a b e =
-    let same : (f : ℕ) → f < length a.sets → get_or a.sets f Open ≡ get_or b.sets f Open = λ f l.
-    let here : f < 256 = let w = a.whole in omega arith in
-    read_at a.sets f Open here a.whole ∙ ap (λ c. c f) e ∙ sym (read_at b.sets f Open here b.whole) in
-    (pointwise_decides decides a.sets b.sets).1 (ext_get_or Open a.sets b.sets (a.whole ∙ sym b.whole) same)
 
 -- boxes that are the same at every flag up to the last one are the same
 pub same_all : (a b : FlagBox) (n : ℕ) (x y : Domain) → ((f : ℕ) → f < n → at a f ≡ at b f) → x ≡ at a n → y ≡ at b n → false ≡ not (sameb the_type x y) → n ≡ 255 → at a ≡ at b

@@ -10,7 +10,7 @@ use model::book::Book;
 use orders::{Boxes, Orders, orders_with, start_all, tell_all};
 use stories::books::{clauses_of, table_of};
 use stories::examples::{FOUR, FOUR_TOLD_OTHERWISE, GATEWAY, GATEWAY_WITH_CLAUSES};
-use stories::saying::{FactTold, NOTHING_FITS, NOTHING_TOLD, Outcome, StillOpen, StruckOut};
+use stories::saying::{FactTold, Outcome, StillOpen, StruckOut, nothing_fits, nothing_told};
 use stories::story::Story;
 
 mod orders;
@@ -34,7 +34,7 @@ fn tell_story(rt: &HostRuntime, story: Story<'_>) -> anyhow::Result<()> {
     let second = table_of(rt.alloc(), story.rules)?;
     let book = Indexed::new(rt.alloc(), Joined { first, second })?;
     let Some(boxes) = start_all(&book, &mut orders) else {
-        rt.println(NOTHING_FITS)?;
+        rt.println(nothing_fits())?;
         return Ok(());
     };
     tell_facts(rt, story, &book, &mut orders, boxes)
@@ -49,7 +49,7 @@ fn tell_facts<B: Book>(
     mut boxes: Boxes,
 ) -> anyhow::Result<()> {
     let flags = story.flags;
-    rt.println(NOTHING_TOLD)?;
+    rt.println(nothing_told())?;
     rt.println(StillOpen {
         flags,
         b: &boxes.ring,

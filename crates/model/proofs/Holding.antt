@@ -1,9 +1,12 @@
 -- A box held as a list of sets, one for each of 256 flags.
 use Rattle.std.specs.List.{IsAnyAnswer}
-use Rattle.std.proofs.Common.{◌≡◌, ℕ, zero, suc, ◌<◌, ◌≤◌, Bool, true, false, cond, ltb, List, length, get_or, set, replicate, sym, refl, ◌∙◌, subst, ⊎_elim, ap, arith, get_or-set_other, get_or-set_same, MatchBool}
+use Rattle.std.proofs.Common.{◌≡◌, ℕ, zero, suc, ◌<◌, ◌≤◌, Bool, true, false, cond, ltb, List, length, get_or, set, replicate, sym, refl, ◌∙◌, subst, ⊎_elim, ap, arith, rules, get_or-set_other, get_or-set_same, MatchBool}
 use mathlib.Core.Path.{fun_ext}
-use Rattle.std.proofs.lemmas.List.{get_or_default}
+use Rattle.std.proofs.lemmas.List.{ext_get_or, get_or_default}
 use Rattle.std.proofs.lemmas.Bool.{cases_eq, cases_lt, cond-true, cond-false, lt-ltb, le-ltb, true≢false, false≢true}
+use lib.Pointwise.{pointwise, pointwise_decides}
+use denote.Enum.Bare.{sameb, same_true, true_same}
+use Rattle.model.specs.contracts.domain.Domain.{the_type}
 use Rattle.model.specs.Domains.{has}
 use Rattle.model.specs.Boxes.{Box, open_box, with_set, Dead, Alive}
 use Rattle.model.specs.View.{at}
@@ -67,3 +70,22 @@ dead_or_alive b false h = (
   (λ e. absurd (false≢true e)),
   (λ _ f e. ⊎_elim (λ l. h f l (sym (list_below b.sets f l) ∙ e)) (λ l. open_empty (sym (past_open b f l) ∙ e)) (cases_lt f 256)),
 )
+
+-- what `==` answers at two boxes: whether they mean the same
+abbrev equal : FlagBox → FlagBox → Bool
+equal a b = pointwise (sameb the_type) a.sets b.sets
+
+decides : (x y : Domain) → (sameb the_type x y ≡ true → x ≡ y) × (x ≡ y → sameb the_type x y ≡ true)
+decides x y = (same_true the_type (search rules) x y, true_same the_type x y)
+
+pub equal_same : (a b : FlagBox) → equal a b ≡ true → at a ≡ at b
+unfolding at
+equal_same a b e = ap of_list ((pointwise_decides decides a.sets b.sets).0 e)
+
+pub same_equal : (a b : FlagBox) → at a ≡ at b → equal a b ≡ true
+unfolding at
+same_equal a b e =
+    let same : (f : ℕ) → f < length a.sets → get_or a.sets f Open ≡ get_or b.sets f Open = λ f l.
+    let here : f < 256 = let w = a.whole in omega arith in
+    read_at a.sets f Open here a.whole ∙ ap (λ c. c f) e ∙ sym (read_at b.sets f Open here b.whole) in
+    (pointwise_decides decides a.sets b.sets).1 (ext_get_or Open a.sets b.sets (a.whole ∙ sym b.whole) same)

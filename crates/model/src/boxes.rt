@@ -15,7 +15,8 @@ pub struct FlagBox {
     ghost whole: { length sets ≡ 256 },
 }
 
-// The layout: a list of 256 sets, that of flag 0 first. These four, and the proofs of what calls them, are all that knows it.
+// The layout: a list of 256 sets, that of flag 0 first. These four and the derived `==`, with the proofs of what calls the four and the lemmas
+// in Holding.antt, are all that knows it.
 fn open_sets() -> [Domain; 256]
     ensures { result ≡ replicate 256 Domain.Open }
 {

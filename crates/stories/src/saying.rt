@@ -18,6 +18,19 @@ pub const NOTHING_TOLD: &str = "Nothing is told yet.";
 
 pub const NOTHING_FITS: &str = "The rules contradict one another: nothing fits them.";
 
+// Programs print what these two answer, since a contract fixes the words of a function and not of a constant.
+pub fn nothing_told() -> &'static str
+    ensures { result.now ≡ codes "Nothing is told yet." }
+{
+    NOTHING_TOLD
+}
+
+pub fn nothing_fits() -> &'static str
+    ensures { result.now ≡ codes "The rules contradict one another: nothing fits them." }
+{
+    NOTHING_FITS
+}
+
 #[derive(Clone, Copy)]
 pub struct RuleInWords<'a> {
     pub flags: Flags<'a>,

@@ -61,8 +61,10 @@ impl<T: Copy> Relation<T> {
         requires { F.IsAlwaysCallable test }
         ensures { MatchBool result (AtSomePlace (λ x. F.post test x true) self) (AtEachPlace (λ x. F.post test x false) self) }
     {
-        let (x, y, z) = self.places();
-        test(x) || test(y) || z.is_some_and(test)
+        match self {
+            Relation::Equal(x, y) | Relation::Not(x, y) => test(x) || test(y),
+            Relation::And(x, y, z) | Relation::Or(x, y, z) => test(x) || test(y) || test(z),
+        }
     }
 }
 

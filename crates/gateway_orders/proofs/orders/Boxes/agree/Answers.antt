@@ -1,5 +1,5 @@
 use Rattle.std.proofs.Common.{sym, ◌∙◌, true≢false}
-use Rattle.gateway_orders.proofs.Agreement.{equal_same, same_equal}
+use Rattle.model.proofs.Holding.{equal_same, same_equal}
 use Rattle.gateway_orders.proofs.orders.Boxes.agree.Goals as goal
 
 pub returns-then-eq-clause-yes : goal.returns-then-eq-clause-yes
