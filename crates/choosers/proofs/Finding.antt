@@ -1,21 +1,19 @@
 -- How the flags that the choosers' definitions find are found, one flag after another.
-use Rattle.std.specs.Prelude.{◌≡◌, ℕ, zero, suc, ◌+◌, ◌-◌, ◌<◌, ◌≤◌, min, Bool, true, false, cond, List, filter, [], ◌∷◌, length, take, Some, None, Option, MatchOption, slice_index_or, refl}
-use Rattle.std.proofs.Math.Path.{sym, ap}
+use Rattle.std.specs.Prelude.{◌≡◌, ℕ, ◌+◌, ◌-◌, ◌<◌, ◌≤◌, min, true, false, List, length, Some, None, Option, MatchOption, slice_index_or, refl}
+use Rattle.std.proofs.Math.Path.{sym, ap, ap₂}
 use Rattle.std.proofs.Common.{◌∙◌, subst, inl, inr, add-one, arith}
-use Rattle.std.proofs.lemmas.Bool.{cases_eq, cases_lt, cases_Bool}
-use Rattle.std.proofs.lemmas.Fn.{fold_over}
-use Rattle.std.proofs.lemmas.Iterator.{YieldsList, YieldsList-from_take}
-use Rattle.std.proofs.lemmas.List.{length-take, get_or-take, take_all}
-use Rattle.std.proofs.lemmas.List.Elements.{filter_more}
-use Rattle.std.proofs.lemmas.List.Sums.{fold-append, fold_push}
+use Rattle.std.proofs.lemmas.Bool.{cases_eq, cases_lt, cond-true, cond-false}
+use Rattle.std.proofs.lemmas.Iterator.{YieldsList, YieldsList-from_range, YieldsList-from_map, maps}
+use Rattle.std.proofs.iter.Yields.{nat_range_steps}
+use Rattle.std.proofs.lemmas.Iterator.Consumers.{YieldsList-at, YieldsList-turn, YieldsList-end}
+use Rattle.std.proofs.lemmas.List.{map-id}
 use Rattle.std.proofs.lemmas.List.FromFn.{length-range_with_len, get_or-range_with_len}
 use Rattle.std.specs.Fn.{Called}
-use Rattle.std.specs.Iterator.{AlwaysYields, Drains}
-use Rattle.std.specs.Iterator.Adapters.{take_source, take_steps}
-use Rattle.std.specs.List.{fold, FoldsTo, range_with_len, AllWithin, HoldsAt}
-use Rattle.std.specs.Range.{range_inclusive_start, range_inclusive_end, range_inclusive_exhausted, range_inclusive_len, range_inclusive_left, range_inclusive_steps}
-use Rattle.std.specs.declared.iter.Take.{Take}
-use Rattle.std.specs.declared.ops.RangeInclusive.{RangeInclusive}
+use Rattle.std.specs.Iterator.{Yields}
+use Rattle.std.specs.Iterator.Adapters.{map_source, map_callee}
+use Rattle.std.specs.List.{range_with_len, AllWithin, HoldsAt}
+use Rattle.std.specs.declared.ops.Range.{Range}
+use Rattle.std.specs.declared.iter.Map.{Map}
 use denote.Param.Members.{Mut}
 use Rattle.model.specs.Boxes.{Box}
 use Rattle.model.specs.declared.domain.Domain.TheVariants.{Open}
@@ -23,55 +21,34 @@ use Rattle.choosers.specs.Choices.{is_open, lowest, better, highest}
 use Rattle.choosers.specs.Flags.{FlagsBelow}
 use Rattle.choosers.specs.Found.{open_is, is_not, NoneBelow, Low, low}
 
--- `fold` over what a chain gives, at a closure that acts as a function
-pub fold_is : {S A B F C : Type 0} {steps : S → Option A → S → Type 0} {v : A → B} {g : Mut F (C × (A × Unit {0})) C} {s : S} {f : F} {all : List B} (h : C → B → C) (a r : C) → (xs : List A) × (f' : F) × Drains steps s xs × FoldsTo {P = F × C} (λ p x q. Called g p.0 (p.1, (x, tt)) q.1 q.0) (f, a) xs (f', r) → YieldsList steps v s all → ((c : C) (x : A) (d : C) (q : F) → Called g f (c, (x, tt)) d q → (q ≡ f) × (d ≡ h c (v x))) → r ≡ fold h a all
-fold_is {steps = steps} {v = v} {g = g} {s = s} {f = f} {all = all} h a r ran road acts =
-    fold_over steps v g (λ xs c. c ≡ fold h a xs) f
-    (λ xs c x d q e called. let k = acts c x d q called in (k.1 ∙ ap (λ w. h w (v x)) e ∙ sym (fold_push h a xs (v x)), k.0))
-    s all a r road.runs refl ran
-
--- how many numbers a range that has its end has left, and how it gives them
-abbrev pub left_of : RangeInclusive ℕ → ℕ
-left_of = range_inclusive_left (λ a b. b - a)
-
-abbrev pub steps : RangeInclusive ℕ → Option ℕ → RangeInclusive ℕ → Type 0
-steps = range_inclusive_steps (λ a b. b - a) (λ a b. b ≡ a + 1)
-
--- a range that is spent has nothing left
-going : (s : RangeInclusive ℕ) → 0 < left_of s → range_inclusive_exhausted s ≡ false
-going s h =
-    elim (cases_Bool (range_inclusive_exhausted s)) [
-      | inl e ↦ absurd (let z = ap (range_inclusive_len (λ x y. y - x) (range_inclusive_start s) (range_inclusive_end s)) e in omega arith)
-      | inr e ↦ e
-    ]
-
-always : (n a : ℕ) (s : RangeInclusive ℕ) → left_of s ≡ n → (0 < n → range_inclusive_start s ≡ a) → AlwaysYields steps (λ x. x) s (range_with_len a n)
-always zero a s e h = λ x j p. omega (arith, p.1.1)
-always (suc n) a s e h = (
-  (λ j p. omega (arith, p.1.0)),
-  λ x j p. (
-    p.1.0 ∙ h (omega arith),
-    always n (a + 1) j (omega (arith, p.1.1)) (λ k. p.1.2 (going j (omega (arith, p.1.1))) ∙ ap (λ i. i + 1) (h (omega arith))),
-  ),
-)
-
--- the flags below n are the first n of 256 numbers
-pub yields_flags : (n m : ℕ) {flags : Take (RangeInclusive ℕ)} → m ≡ 256 → FlagsBelow n flags → YieldsList (take_steps steps) (λ x. x) flags (take n (range_with_len 0 m))
-yields_flags n m {flags} is_256 h =
-    let source = take_source flags in
-    let long : left_of source ≡ m = let e = ap (range_inclusive_len (λ x y. y - x) (range_inclusive_start source) (range_inclusive_end source)) h.whole in let x = h.first in let y = h.last in omega arith in
-    YieldsList-from_take {steps = steps} n (record { runs = always m 0 source long (λ _. h.first) }) h.count
-
 -- the first n of the flags
 module _ (n m : ℕ) where
   abbrev pub front : List ℕ
-  front = take n (range_with_len 0 m)
+  front = range_with_len 0 (min n m)
 
   length-front : length front ≡ min n m
-  length-front = length-take n (range_with_len 0 m) ∙ ap (min n) (length-range_with_len 0 m)
+  length-front = length-range_with_len 0 (min n m)
 
   at-front : (k d : ℕ) → k < min n m → slice_index_or front k d ≡ k
-  at-front k d h = get_or-take n (range_with_len 0 m) k d (omega arith) ∙ get_or-range_with_len 0 m k d (omega arith) ∙ omega arith
+  at-front k d h = get_or-range_with_len 0 (min n m) k d (omega arith) ∙ omega arith
+
+  -- the flags below n, each as a byte, are the first n of 256 numbers
+  pub yields_flags : {F : Type 0} {g : Mut F (ℕ × Unit {0}) ℕ} {flags : Map (Range ℕ) F} {range : Range ℕ} {f : F} → m ≡ 256 → FlagsBelow n range → map_source flags ≡ range → map_callee flags ≡ f → ((x r : ℕ) (q : F) → Called g f (x, tt) r q → (q ≡ f) × (r ≡ x)) → YieldsList (maps nat_range_steps g) (λ r. r) flags front
+  yields_flags {g = g} {flags = flags} {range = range} is_256 h source callee same =
+      let long : range.end - range.start ≡ min n m = let x = h.first in let y = h.end in omega arith in
+      subst (YieldsList (maps nat_range_steps g) (λ r. r) flags) (map-id (range_with_len range.start (range.end - range.start)) ∙ ap₂ range_with_len h.first long)
+      (YieldsList-from_map g (λ x. x) (YieldsList-from_range range.start range.end _ source refl) callee same)
+
+  -- in a `for` over them which flag comes next, and how many came in all
+  module _ {F : Type 0} {g : Mut F (ℕ × Unit {0}) ℕ} {flags made : Map (Range ℕ) F} {range : Range ℕ} {f : F} (xs : List ℕ) (t : Map (Range ℕ) F) (y : Yields (maps nat_range_steps g) flags xs t) (is : flags ≡ made) (is_256 : m ≡ 256) (h : FlagsBelow n range) (source : map_source made ≡ range) (callee : map_callee made ≡ f) (same : (x r : ℕ) (q : F) → Called g f (x, tt) r q → (q ≡ f) × (r ≡ x)) where
+    pub next_flag : (r : Option ℕ) (u : Map (Range ℕ) F) (x : ℕ) → r ≡ Some x → maps nat_range_steps g t r u → x ≡ length xs
+    next_flag r u x e step =
+        let turn = YieldsList-turn (YieldsList-at is (yields_flags is_256 h source callee same)) xs t y r u x e step in
+        let l = length-front in
+        turn.1 ∙ at-front (length xs) x (omega (arith, turn.0))
+
+    pub all_flags : (r : Option ℕ) (u : Map (Range ℕ) F) → r ≡ None → maps nat_range_steps g t r u → length xs ≡ min n m
+    all_flags r u e step = (YieldsList-end (YieldsList-at is (yields_flags is_256 h source callee same)) xs t y r u e step).1 ∙ length-front
 
 module _ (b : Box) where
   -- a flag below n that is open, and below which none is, is the lowest
@@ -82,9 +59,18 @@ module _ (b : Box) where
       let y : (g < f → ⊥) = λ z. p g z q in
       elim (cases_eq f g) [ inl e ↦ ap Some e | inr d ↦ absurd (elim (cases_lt f g) [ inl z ↦ x z | inr z ↦ y (omega arith) ]) ]
 
+  none_open : (n : ℕ) → ((g : ℕ) → g < n → is_open (b g) ≡ false) → NoneBelow b n
+  none_open n h g l = is_not (b g) (h g l)
+
+  pub lowest_is : (n f : ℕ) → f < n → is_open (b f) ≡ true → ((g : ℕ) → g < f → is_open (b g) ≡ false) → Some f ≡ lowest b n
+  lowest_is n f l o h = low_is n f (lowest b n) (low b n) l (open_is (b f) o) (none_open f h)
+
   low_none : (n : ℕ) (r : Option ℕ) → Low b n r → NoneBelow b n → None ≡ r
   low_none n None h p = refl
   low_none n (Some g) (k, q, s) p = absurd (p g k q)
+
+  pub lowest_none : (n : ℕ) → ((g : ℕ) → g < n → is_open (b g) ≡ false) → None ≡ lowest b n
+  lowest_none n h = low_none n (lowest b n) (low b n) (none_open n h)
 
   abbrev pub Open_at : ℕ → Type 0
   Open_at f = is_open (b f) ≡ true
@@ -92,48 +78,28 @@ module _ (b : Box) where
   abbrev pub Shut_at : ℕ → Type 0
   Shut_at f = is_open (b f) ≡ false
 
-  none_below : (n m i : ℕ) → i ≤ min n m → AllWithin Shut_at (front n m) 0 i → NoneBelow b i
-  none_below n m i l h g k = is_not (b g) (subst Shut_at (at-front n m g 0 (omega arith)) (h g 0 (omega arith) k))
+  shut_below : (n m i : ℕ) → i ≤ min n m → AllWithin Shut_at (front n m) 0 i → (g : ℕ) → g < i → is_open (b g) ≡ false
+  shut_below n m i l h g k = subst Shut_at (at-front n m g 0 (omega arith)) (h g 0 (omega arith) k)
 
   -- the first of the flags that is open is the lowest
   pub lowest_found : (n m : ℕ) (r : Option ℕ) → MatchOption r (AllWithin Shut_at (front n m) 0 (length (front n m))) (λ x. Open_at x × (i : ℕ) × (i < length (front n m)) × HoldsAt (λ y. y ≡ x) (front n m) i × AllWithin Shut_at (front n m) 0 i) → r ≡ lowest b (min n m)
   lowest_found n m None h =
       let l = length-front n m in
-      low_none (min n m) (lowest b (min n m)) (low b (min n m)) (none_below n m (min n m) (omega arith) (λ k d x y. h k d x (omega arith)))
+      lowest_none (min n m) (shut_below n m (min n m) (omega arith) (λ k d x y. h k d x (omega arith)))
   lowest_found n m (Some f) (o, i, l, here, none) =
       let e = length-front n m in
       let at : i ≡ f = sym (at-front n m i 0 (omega arith)) ∙ here 0 in
-      low_is (min n m) f (lowest b (min n m)) (low b (min n m)) (omega arith) (open_is (b f) o) (subst (NoneBelow b) at (none_below n m i (omega arith) none))
+      lowest_is (min n m) f (omega arith) o (λ g k. shut_below n m i (omega arith) none g (omega arith))
 
   module _ (ranks : List ℕ) where
-    -- the best of the flags so far that are open, with one flag more
-    abbrev pub with_flag : Option ℕ → ℕ → Option ℕ
-    with_flag best f = Some (better ranks best f)
-
-    one_more : (t : Bool) (best : Option ℕ) (f : ℕ) → fold with_flag best (cond t (f ∷ []) []) ≡ cond t (with_flag best f) best
-    one_more true best f = refl
-    one_more false best f = refl
-
-    best_more : (fs : List ℕ) (i : ℕ) → i < length fs → slice_index_or fs i 0 ≡ i → fold with_flag None (filter (λ f. is_open (b f)) (take i fs)) ≡ highest ranks b i → fold with_flag None (filter (λ f. is_open (b f)) (take (i + 1) fs)) ≡ highest ranks b (i + 1)
+    -- the best flag after one more turn
+    pub highest_with : (n : ℕ) (r : Option ℕ) (f : ℕ) → r ≡ highest ranks b n → is_open (b n) ≡ true → f ≡ better ranks r n → Some f ≡ highest ranks b (n + 1)
     unfolding highest
-    best_more fs i h e so_far =
-        ap (fold with_flag None) (filter_more (λ f. is_open (b f)) fs i 0 h)
-        ∙ fold-append with_flag None (filter (λ f. is_open (b f)) (take i fs)) _
-        ∙ ap (λ best. fold with_flag best (cond (is_open (b (slice_index_or fs i 0))) (slice_index_or fs i 0 ∷ []) [])) so_far
-        ∙ ap (λ f. fold with_flag (highest ranks b i) (cond (is_open (b f)) (f ∷ []) [])) e
-        ∙ one_more (is_open (b i)) (highest ranks b i) i
-        ∙ ap (highest ranks b) (sym (add-one i))
+    highest_with n r f e o i =
+        ap Some (i ∙ ap (λ (x : Option ℕ). better ranks x n) e)
+        ∙ sym (cond-true (is_open (b n)) _ _ o)
+        ∙ ap (highest ranks b) (sym (add-one n))
 
-    -- the best of the first of the flags that are open
-    best_below : (n m i : ℕ) → i ≤ min n m → fold with_flag None (filter (λ f. is_open (b f)) (take i (front n m))) ≡ highest ranks b i
+    pub highest_past : (n : ℕ) (r : Option ℕ) → r ≡ highest ranks b n → is_open (b n) ≡ false → r ≡ highest ranks b (n + 1)
     unfolding highest
-    best_below n m zero h = refl
-    best_below n m (suc i) h =
-        let l = length-front n m in
-        subst (λ j. fold with_flag None (filter (λ f. is_open (b f)) (take j (front n m))) ≡ highest ranks b j) (add-one i)
-        (best_more (front n m) i (omega arith) (at-front n m i 0 (omega arith)) (best_below n m i (omega arith)))
-
-    pub highest_found : (n m : ℕ) (r : Option ℕ) → r ≡ fold with_flag None (filter (λ f. is_open (b f)) (front n m)) → r ≡ highest ranks b (min n m)
-    highest_found n m r e =
-        let l = length-front n m in
-        e ∙ ap (λ fs. fold with_flag None (filter (λ f. is_open (b f)) fs)) (sym (take_all (min n m) (front n m) (omega arith))) ∙ best_below n m (min n m) (omega arith)
+    highest_past n r e d = e ∙ sym (cond-false (is_open (b n)) _ _ d) ∙ ap (highest ranks b) (sym (add-one n))

@@ -5,14 +5,13 @@ ghost use Rattle.choosers.specs.Flags.{FlagsBelow};
 
 use model::boxes::FlagBox;
 use model::domain::Domain;
-use std::iter::Take;
-use std::ops::RangeInclusive;
+use std::ops::Range;
 
 // The flags that count, the lowest first: a box has 256, whatever n is.
-pub fn flags_below(n: usize) -> Take<RangeInclusive<u8>>
+pub fn flags_below(n: usize) -> Range<usize>
     ensures { FlagsBelow n result }
 {
-    (0..=u8::MAX).take(n)
+    0..n.min(256)
 }
 
 // Whether a flag may still have both values.

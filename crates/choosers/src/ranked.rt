@@ -36,9 +36,13 @@ impl Ranked {
     fn highest_open(&self, b: &FlagBox, n: usize) -> Option<u8>
         ensures { result ≡ highest self.now.ranks (at b.now) (min n 256) }
     {
-        flags_below(n)
-            .filter(|&flag| is_open(b, flag))
-            .fold(None, |best, flag| Some(self.better(best, flag)))
+        let mut best = None;
+        for flag in flags_below(n).map(|flag| flag as u8) {
+            if is_open(b, flag) {
+                best = Some(self.better(best, flag));
+            }
+        }
+        best
     }
 }
 

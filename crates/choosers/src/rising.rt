@@ -15,7 +15,9 @@ pub struct Rising;
 fn lowest_open(b: &FlagBox, n: usize) -> Option<u8>
     ensures { result ≡ lowest (at b.now) (min n 256) }
 {
-    flags_below(n).find(|&flag| is_open(b, flag))
+    flags_below(n)
+        .map(|flag| flag as u8)
+        .find(|&flag| is_open(b, flag))
 }
 
 impl Chooser for Rising {

@@ -1,17 +1,35 @@
-use Rattle.std.proofs.Common.{None, refl, rules, subst, sym, tests}
-use Rattle.std.proofs.lemmas.Iterator.Consumers.{YieldsList-from_filter}
+use Rattle.std.proofs.Common.{◌≡◌, ◌+◌, length, [], ◌∷◌, ◌++◌, sym, ap, refl, ◌∙◌, arith, rules, tests}
+use Rattle.std.proofs.lemmas.List.{length_push}
 use Rattle.model.specs.View.{at}
-use Rattle.choosers.specs.Choices.{is_open}
-use Rattle.choosers.specs.Flags.{FlagsBelow}
-use Rattle.choosers.proofs.Finding.{fold_is, yields_flags, with_flag, highest_found}
+use Rattle.choosers.specs.Choices.{highest}
+use Rattle.choosers.proofs.Finding.{next_flag, all_flags, highest_with, highest_past}
 use Rattle.choosers.proofs.ranked.Ranked.highest_open.Goals as goal
+
+pub loop-flag-init : goal.loop-flag-init
+unfolding highest
+loop-flag-init c = refl
+
+pub loop-flag-preserved-then-is_open : goal.loop-flag-preserved-then-is_open
+loop-flag-preserved-then-is_open c =
+    let b = at c.args.b.now in
+    let ranks = c.args.self.now.ranks in
+    let flag = c.in-Some.flag in
+    let e = next_flag c.args.n 256 c.loop-flag.yielded _ c.loop-flag.yielded_by c.into_iter-flag-iterator.ensures.into_iter_gives refl c.flags_below.ensures c.map-flag-items.ensures.source c.map-flag-items.ensures.closure (λ x r q k. search (rules, tests)) _ _ flag c.in-Some.is c.next.ensures.steps in
+    let more : flag + 1 ≡ length (c.loop-flag.yielded ++ flag ∷ []) = omega (arith, length_push c.loop-flag.yielded flag) in
+    highest_with b ranks flag c.loop-flag.best c.better.result (c.loop-flag.invariant ∙ ap (highest ranks b) (sym e)) (sym c.is_open.ensures ∙ c.if-is_open.true) c.better.ensures
+    ∙ ap (highest ranks b) more
+
+pub loop-flag-preserved : goal.loop-flag-preserved
+loop-flag-preserved c =
+    let b = at c.args.b.now in
+    let ranks = c.args.self.now.ranks in
+    let flag = c.in-Some.flag in
+    let e = next_flag c.args.n 256 c.loop-flag.yielded _ c.loop-flag.yielded_by c.into_iter-flag-iterator.ensures.into_iter_gives refl c.flags_below.ensures c.map-flag-items.ensures.source c.map-flag-items.ensures.closure (λ x r q k. search (rules, tests)) _ _ flag c.in-Some.is c.next.ensures.steps in
+    let more : flag + 1 ≡ length (c.loop-flag.yielded ++ flag ∷ []) = omega (arith, length_push c.loop-flag.yielded flag) in
+    highest_past b ranks flag c.loop-flag.best (c.loop-flag.invariant ∙ ap (highest ranks b) (sym e)) (sym c.is_open.ensures ∙ c.if-is_open.false)
+    ∙ ap (highest ranks b) more
 
 pub returns : goal.returns
 returns c =
-    let b = at c.args.b.now in
-    let ranks = c.args.self.now.ranks in
-    let flags = subst (FlagsBelow c.args.n) (sym c.filter.ensures.source) c.flags_below.ensures in
-    highest_found b ranks c.args.n 256 c.fold.result
-    (fold_is (with_flag b ranks) None c.fold.result c.fold.ensures.ran
-    (YieldsList-from_filter _ (λ f. is_open (b f)) (yields_flags c.args.n 256 refl flags) c.filter.ensures.closure (λ x r q k. search (rules, tests)))
-    (λ best f r q k. search (rules, tests)))
+    c.loop-flag.invariant
+    ∙ ap (highest c.args.self.now.ranks (at c.args.b.now)) (all_flags c.args.n 256 c.loop-flag.yielded _ c.loop-flag.yielded_by c.into_iter-flag-iterator.ensures.into_iter_gives refl c.flags_below.ensures c.map-flag-items.ensures.source c.map-flag-items.ensures.closure (λ x r q k. search (rules, tests)) _ _ c.in-None.is c.next.ensures.steps)
