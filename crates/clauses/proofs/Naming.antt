@@ -7,9 +7,9 @@ use Rattle.model.specs.Rows.{elem}
 use Rattle.clauses.specs.Literals.{flags_of}
 use Rattle.clauses.specs.declared.literal.Literal.{Literal}
 
-pub any_is : {T : Type 0} (number : T → ℕ) (f : ℕ) (ls : List (Literal T)) → list_any (λ l. eqb f (number l.flag)) ls ≡ elem f (map (λ l. number l.flag) ls)
+pub any_is : {L : Type 0} (number : L → ℕ) (f : ℕ) (ls : List L) → list_any (λ l. eqb f (number l)) ls ≡ elem f (map number ls)
 any_is number f [] = refl
-any_is number f (l ∷ ls) = ap (λ x. eqb f (number l.flag) || x) (any_is number f ls)
+any_is number f (l ∷ ls) = ap (λ x. eqb f (number l) || x) (any_is number f ls)
 
 pub any_large : (ls : List (Literal ℕ)) → list_any (λ l. ltb 255 l.flag) ls ≡ some_large (flags_of ls)
 any_large [] = refl

@@ -13,42 +13,34 @@ pub struct Literal<T> {
     pub positive: bool,
 }
 
-// What a flag may be written as: a number.
-pub(crate) trait Numbered: Copy {
+// A literal of either kind: its flag is a number.
+pub(crate) trait Numbered {
     ghost number: { Self → ℕ };
 
-    fn number(self) -> usize
-        ensures { result ≡ number self };
-}
-
-impl Numbered for usize {
-    ghost number = { λ flag. flag };
-
-    fn number(self) -> usize {
-        self
-    }
-}
-
-impl Numbered for u8 {
-    ghost number = { λ flag. flag };
-
-    fn number(self) -> usize {
-        usize::from(self)
-    }
-}
-
-impl<T: Numbered> Literal<T> {
     // Whether it is of the flag, whatever its sign.
     fn is_of(&self, flag: usize) -> bool
-        ensures { result ≡ (flag == T.number self.now.flag) }
-    {
-        flag == self.flag.number()
+        ensures { result ≡ (flag == number self.now) };
+}
+
+impl Numbered for Literal<usize> {
+    ghost number = { λ literal. literal.flag };
+
+    fn is_of(&self, flag: usize) -> bool {
+        flag == self.flag
+    }
+}
+
+impl Numbered for Literal<u8> {
+    ghost number = { λ literal. literal.flag };
+
+    fn is_of(&self, flag: usize) -> bool {
+        flag == usize::from(self.flag)
     }
 }
 
 // Whether some literal is of the flag.
-pub(crate) fn names<T: Numbered>(literals: &[Literal<T>], flag: usize) -> bool
-    ensures { result ≡ elem flag (map (λ l. T.number l.flag) literals.now) }
+pub(crate) fn names<L: Numbered>(literals: &[L], flag: usize) -> bool
+    ensures { result ≡ elem flag (map L.number literals.now) }
 {
     literals.iter().any(|literal| literal.is_of(flag))
 }
